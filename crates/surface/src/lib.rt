@@ -1,0 +1,3 @@
+//! What every surface means, and the byte surface.
+pub mod byte;
+pub mod surface;
