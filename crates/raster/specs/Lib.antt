@@ -1,3 +1,8 @@
 pub mod Refusals
 pub mod Inks
 pub mod Sizes
+pub mod Glyphs
+pub mod Segments
+pub mod Fonts
+pub mod Lines
+pub mod Shapes

@@ -1,3 +1,5 @@
+pub mod cover;
+
 /// A box: the pixels from x to x + w - 1 and from y to y + h - 1.
 #[derive(Clone, Copy, PartialEq, Eq, Debug)]
 pub struct Rect {
@@ -30,4 +32,13 @@ pub enum Shape {
     Box(Rect),
     Line(Ends),
     Figure(Cell),
+}
+
+/// A box of pixels: those from left and top on that lie before right and bottom.
+#[derive(Clone, Copy)]
+pub struct Bounds {
+    pub left: u32,
+    pub top: u32,
+    pub right: u32,
+    pub bottom: u32,
 }

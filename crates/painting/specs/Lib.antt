@@ -1,0 +1,3 @@
+pub mod Drawing
+pub mod Scenes
+pub mod Laid

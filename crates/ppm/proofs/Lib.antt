@@ -1,0 +1,4 @@
+pub mod Writes
+pub mod Numbers
+pub mod Heads
+pub mod Rows
