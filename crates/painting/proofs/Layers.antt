@@ -10,8 +10,7 @@ use Rattle.std.specs.declared.option.Option.the-variants.{Some, None}
 use Rattle.raster.specs.Shapes.{covers}
 use Rattle.surface.specs.Picture.{Picture, On, Same-sides, Lawful}
 use Rattle.surface.specs.Calls.{Settled}
-use Rattle.painting.specs.declared.scene.Placed.{Placed}
-use Rattle.painting.specs.Drawing.{Drawing, topmost, ruling, shape-ink, painting, Fresh}
+use Rattle.painting.specs.Drawing.{Drawing, Item, topmost, ruling, shape-ink, painting, Fresh}
 use Rattle.painting.specs.Laid.{Laid, Over, Painted}
 use Rattle.painting.proofs.Laying.{same-again, on-again, on-back, sides-then}
 use Rattle.painting.proofs.Topmost.{topmost-none, topmost-more, painting-in-words}
@@ -31,14 +30,14 @@ layered-more d n p q r s t = record {
 }
 
 -- a shape laid in its ruling ink
-pub over-laid : (d : Drawing) (n ink : ℕ) (placed : Placed) (p q : Picture) → d .shapes n ≡ Some placed → ink ≡ ruling d n (placed .ink .value) → Laid (covers (d .font) (placed .shape)) ink p q → Over d n p q
-over-laid d n ink placed p q e i s = record { sides = s .sides; taken = λ x y o. go x y o }
+pub over-laid : (d : Drawing) (n ink : ℕ) (item : Item) (p q : Picture) → d .shapes n ≡ Some item → ink ≡ ruling d n (item .ink) → Laid (covers (d .font) (item .shape)) ink p q → Over d n p q
+over-laid d n ink item p q e i s = record { sides = s .sides; taken = λ x y o. go x y o }
   where
     go : (x y : ℕ) → On p x y → q .taken x y ≡ valueOr (shape-ink d x y (d .shapes n) n) (p .taken x y)
     go x y o = ⊎-elim
-        (λ h. s .on x y o h ∙ i ∙ sym (ap (λ w. valueOr (shape-ink d x y w n) (p .taken x y)) e ∙ ap (λ w. valueOr w (p .taken x y)) (cond-true (covers (d .font) (placed .shape) x y) _ _ h)))
-        (λ h. s .off x y o h ∙ sym (ap (λ w. valueOr (shape-ink d x y w n) (p .taken x y)) e ∙ ap (λ w. valueOr w (p .taken x y)) (cond-false (covers (d .font) (placed .shape) x y) _ _ h)))
-        (cases-bool (covers (d .font) (placed .shape) x y))
+        (λ h. s .on x y o h ∙ i ∙ sym (ap (λ w. valueOr (shape-ink d x y w n) (p .taken x y)) e ∙ ap (λ w. valueOr w (p .taken x y)) (cond-true (covers (d .font) (item .shape) x y) _ _ h)))
+        (λ h. s .off x y o h ∙ sym (ap (λ w. valueOr (shape-ink d x y w n) (p .taken x y)) e ∙ ap (λ w. valueOr w (p .taken x y)) (cond-false (covers (d .font) (item .shape) x y) _ _ h)))
+        (cases-bool (covers (d .font) (item .shape) x y))
 
 pub over-none : (d : Drawing) (n : ℕ) (p : Picture) → d .shapes n ≡ None → Over d n p p
 over-none d n p e = record { sides = same-again p; taken = λ x y o. sym (ap (λ w. valueOr (shape-ink d x y w n) (p .taken x y)) e) }

@@ -11,9 +11,7 @@ use Rattle.std.specs.Options.{valueOr}
 use Rattle.std.specs.declared.option.Option.{Option}
 use Rattle.std.specs.declared.option.Option.the-variants.{Some, None}
 use Rattle.raster.specs.Shapes.{covers}
-use Rattle.painting.specs.declared.scene.Placed.{Placed}
-use Rattle.painting.specs.declared.scene.Span.{Span}
-use Rattle.painting.specs.Drawing.{Drawing, topmost, holds, span-ink, ruling, shape-ink, painting, Rules, Ruling-ink, Covered, Fresh}
+use Rattle.painting.specs.Drawing.{Drawing, Item, Turn, topmost, holds, span-ink, ruling, shape-ink, painting, Rules, Ruling-ink, Covered, Fresh}
 
 pub topmost-none : (f : ℕ → Option ℕ) (d : ℕ) → topmost f d 0 ≡ d
 unfolding topmost
@@ -44,29 +42,29 @@ topmost-top f d (suc k) n i l e h = ⊎-elim
     (cases-eq n k)
 
 -- a span that does not rule gives nothing
-span-ink-none : (o : Option Span) (n frame : ℕ) → ((s : Span) → o ≡ Some s → holds s n frame ≡ true → ⊥) → span-ink o n frame ≡ None
+span-ink-none : (o : Option Turn) (n frame : ℕ) → ((s : Turn) → o ≡ Some s → holds s n frame ≡ true → ⊥) → span-ink o n frame ≡ None
 span-ink-none None n frame h = refl
 span-ink-none (Some s) n frame h = ⊎-elim (λ e. absurd (h s refl e)) (λ e. cond-false (holds s n frame) _ _ e) (cases-bool (holds s n frame))
 
 pub ruling-in-words : (d : Drawing) (n own : ℕ) → Ruling-ink d n own (ruling d n own)
 ruling-in-words d n own = record {
-  top = λ s span r above. topmost-top (λ m. span-ink (d .spans m) n (d .frame)) own 256 s (span .ink .value) (r .number)
+  top = λ s span r above. topmost-top (λ m. span-ink (d .spans m) n (d .frame)) own 256 s (span .ink) (r .number)
         (ap (λ o. span-ink o n (d .frame)) (r .given) ∙ cond-true (holds span n (d .frame)) _ _ (r .holding))
         (λ m a b. span-ink-none (d .spans m) n (d .frame) (λ other e h. above m other a (record { number = b; given = e; holding = h })));
   bare = λ none. topmost-bare (λ m. span-ink (d .spans m) n (d .frame)) own 256 (λ m b. span-ink-none (d .spans m) n (d .frame) (λ other e h. none m other (record { number = b; given = e; holding = h })));
 }
 
 -- a shape that does not cover the pixel gives nothing
-shape-ink-none : (d : Drawing) (x y n : ℕ) (o : Option Placed) → ((p : Placed) → o ≡ Some p → covers (d .font) (p .shape) x y ≡ true → ⊥) → shape-ink d x y o n ≡ None
+shape-ink-none : (d : Drawing) (x y n : ℕ) (o : Option Item) → ((p : Item) → o ≡ Some p → covers (d .font) (p .shape) x y ≡ true → ⊥) → shape-ink d x y o n ≡ None
 shape-ink-none d x y n None h = refl
 shape-ink-none d x y n (Some p) h = ⊎-elim (λ e. absurd (h p refl e)) (λ e. cond-false (covers (d .font) (p .shape) x y) _ _ e) (cases-bool (covers (d .font) (p .shape) x y))
 
 pub painting-in-words : (d : Drawing) (x y : ℕ) → Fresh d x y (painting d x y)
 painting-in-words d x y = record {
-  top = λ n placed r above.
-        let e = topmost-top (λ m. shape-ink d x y (d .shapes m) m) 0 256 n (ruling d n (placed .ink .value)) (r .number)
-                (ap (λ o. shape-ink d x y o n) (r .given) ∙ cond-true (covers (d .font) (placed .shape) x y) _ _ (r .covering))
+  top = λ n item r above.
+        let e = topmost-top (λ m. shape-ink d x y (d .shapes m) m) 0 256 n (ruling d n (item .ink)) (r .number)
+                (ap (λ o. shape-ink d x y o n) (r .given) ∙ cond-true (covers (d .font) (item .shape) x y) _ _ (r .covering))
                 (λ m a b. shape-ink-none d x y m (d .shapes m) (λ other q h. above m other a (record { number = b; given = q; covering = h }))) in
-        subst (Ruling-ink d n (placed .ink .value)) (sym e) (ruling-in-words d n (placed .ink .value));
+        subst (Ruling-ink d n (item .ink)) (sym e) (ruling-in-words d n (item .ink));
   bare = λ none. topmost-bare (λ m. shape-ink d x y (d .shapes m) m) 0 256 (λ m b. shape-ink-none d x y m (d .shapes m) (λ other e h. none m other (record { number = b; given = e; covering = h })));
 }

@@ -1,2 +1,4 @@
 pub mod Picture
 pub mod Calls
+pub mod Bytes
+pub mod Panel

@@ -1,8 +1,8 @@
 ghost use mathlib.Core.Path.{_≡_};
 ghost use Prim.Native.Nat.{_<_};
-ghost use Rattle.std.specs.Options.{valueOr};
+ghost use Rattle.std.specs.Options.{valueOr, mapped};
 ghost use Rattle.painting.specs.Drawing.{holds as holds-frame, span-ink, ruling, Ruling-ink, shape-ink, painting, Fresh};
-ghost use Rattle.painting.specs.Scenes.{drawing, at-number};
+ghost use Rattle.painting.specs.Scenes.{drawing, item, turn, at-number};
 use super::Placed;
 use super::Scene;
 use super::Span;
@@ -11,7 +11,7 @@ use raster::ink::Ink;
 impl Span {
     /// Whether the span names the shape of that number and holds the frame.
     pub fn holds(self, number: u16, frame: u16) -> bool
-        ensures { λ r. ⌜ r ≡ holds-frame self number frame ⌝ }
+        ensures { λ r. ⌜ r ≡ holds-frame (turn self) number frame ⌝ }
     {
         self.shape == number && (self.from <= frame && frame <= self.to)
     }
@@ -26,7 +26,7 @@ pub(crate) fn entry_at<T: Copy>(table: &[Option<T>], n: usize) -> Option<T>
 
 /// The ink that a span gives to a shape at a frame, else the ink below.
 fn over_span(span: Option<Span>, number: u16, frame: u16, below: Ink) -> Ink
-    ensures { λ r. ⌜ r .value ≡ valueOr (span-ink span number frame) (below .value) ⌝ }
+    ensures { λ r. ⌜ r .value ≡ valueOr (span-ink (mapped turn span) number frame) (below .value) ⌝ }
 {
     match span {
         Some(span) => {
@@ -55,7 +55,7 @@ impl Scene<'_> {
 
     /// The ink that a shape gives to the pixel (x, y), else the ink below.
     fn over_shape(&self, placed: Option<Placed>, number: u16, x: u16, y: u16, below: u8) -> u8
-        ensures { λ r. ⌜ r ≡ valueOr (shape-ink (drawing (now (self .entry))) x y placed number) below ⌝ }
+        ensures { λ r. ⌜ r ≡ valueOr (shape-ink (drawing (now (self .entry))) x y (mapped item placed) number) below ⌝ }
     {
         match placed {
             Some(placed) => {

@@ -1,8 +1,8 @@
 use mathlib.Core.Path.{sym, ap, ap₂, subst, _∙_}
 use native.Mathlib.Omega.{arith}
-use Rattle.std.specs.Options.{valueOr}
+use Rattle.std.specs.Options.{valueOr, mapped}
 use Rattle.painting.specs.Drawing.{topmost, span-ink, Ruling-ink}
-use Rattle.painting.specs.Scenes.{drawing}
+use Rattle.painting.specs.Scenes.{drawing, turn}
 use Rattle.painting.proofs.Topmost.{topmost-none, topmost-more, ruling-in-words}
 use Rattle.painting.proofs.scene.Scene.ruling_ink.Needs as need
 
@@ -12,7 +12,7 @@ loop-s-holds c = sym (topmost-none _ _)
 pub loop-s-again : need.loop-s-again
 loop-s-again c =
     c .over-span-ink .ensures
-    ∙ ap₂ (λ o b. valueOr (span-ink o (c .args .number) (c .args .self .now .frame)) b) (c .entry-at .ensures (c .loop-s-test .taken)) (c .loop-s .inv)
+    ∙ ap₂ (λ o b. valueOr (span-ink (mapped turn o) (c .args .number) (c .args .self .now .frame)) b) (c .entry-at .ensures (c .loop-s-test .taken)) (c .loop-s .inv)
     ∙ sym (topmost-more _ _ _)
 
 pub returns : need.returns

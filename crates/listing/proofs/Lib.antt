@@ -1,0 +1,5 @@
+pub mod Values
+pub mod Readings
+pub mod Going
+pub mod Spelling
+pub mod Lines

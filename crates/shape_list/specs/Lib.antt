@@ -1,0 +1,4 @@
+pub mod Book
+pub mod Views
+pub mod Counts
+pub mod Reading
