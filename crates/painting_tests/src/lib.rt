@@ -1,0 +1,3 @@
+//! Tests of the fresh painting, on small byte surfaces.
+#[cfg(test)]
+mod tests;

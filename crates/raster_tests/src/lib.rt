@@ -1,0 +1,3 @@
+//! Tests of the shapes, their pixels and their bounds.
+#[cfg(test)]
+mod tests;
