@@ -13,17 +13,14 @@ use raster::shape::Cell;
 use raster::shape::Ends;
 use raster::shape::Rect;
 use raster::shape::Shape;
+use surface::clip::run_clipped;
 use surface::surface::Surface;
 
 /// Lays the ink on those of the n pixels from (x, y) to the right that the surface has.
 pub(crate) fn lay_run<S: Surface>(surface: &mut S, x: u32, y: u32, n: u32, ink: Ink)
     ensures { λ _. ⌜ Laid (run-of x y n) (ink .value) (S·Surface .view (now (surface .entry))) (S·Surface .view (now (surface .exit))) ⌝ }
 {
-    let (width, height) = surface.size();
-    if y < height as u32 && x < width as u32 {
-        let count = n.min(width as u32 - x);
-        let _ = surface.run(x as u16, y as u16, count as u16, ink.value as u16);
-    }
+    run_clipped(surface, x, y, n, ink);
 }
 
 /// Lays the ink on the pixels of a box.

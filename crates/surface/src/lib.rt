@@ -1,3 +1,4 @@
 //! What every surface means, and the byte surface.
 pub mod byte;
+pub mod clip;
 pub mod surface;
