@@ -36,8 +36,8 @@ given-then f g h p q r same s t = record {
   sides = sides-then p q r (s .sides) (t .sides);
   taken = λ u v o. t .taken u v (on-again p q u v (s .sides) o) ∙ ap (valueOr (g u v)) (s .taken u v o) ∙ over-value (g u v) (f u v) (p .taken u v) ∙ sym (ap (λ w. valueOr w (p .taken u v)) (same u v o));
   calm = λ u v o e w.
-    let z = over-none (g u v) (f u v) (sym (same u v o) ∙ e) in
-    t .calm u v (on-again p q u v (s .sides) o) (z .0) (s .calm u v o (z .1) w);
+      let z = over-none (g u v) (f u v) (sym (same u v o) ∙ e) in
+      t .calm u v (on-again p q u v (s .sides) o) (z .0) (s .calm u v o (z .1) w);
 }
 
 pub given-like : (f g : ℕ → ℕ → Option ℕ) (p q : Picture) → ((u v : ℕ) → On p u v → f u v ≡ g u v) → Given f p q → Given g p q

@@ -35,12 +35,13 @@ emptied-held : (ss : List Slot) (i : ℕ) (s b : Slot) (t k : ℕ) → i < lengt
     → (held (set ss i b) t k ≡ cond (is-tile (s .tile) t) None (held ss t k)) × (is-tile (s .tile) t ≡ true → held ss t k ≡ ink-at s k)
 emptied-held ss i s b t k l a e n =
     let m = tile-read ss i s l e in
-    let empty = ap (λ o. is-tile o t) n in
-    (⊎-elim
-      (λ h. held-only ss i b t k l (apart-only ss i t a (ap (λ o. is-tile o t) m ∙ h)) ∙ cond-false _ _ _ empty ∙ sym (cond-true _ _ _ h))
-      (λ h. held-beside ss i b t k (ap (λ o. is-tile o t) m ∙ h) empty ∙ sym (cond-false _ _ _ h))
-      (cases-bool (is-tile (s .tile) t)),
-    λ h. held-read ss i s t k l e (apart-only ss i t a (ap (λ o. is-tile o t) m ∙ h)) h)
+    let empty = ap (λ o. is-tile o t) n in (
+      ⊎-elim
+          (λ h. held-only ss i b t k l (apart-only ss i t a (ap (λ o. is-tile o t) m ∙ h)) ∙ cond-false _ _ _ empty ∙ sym (cond-true _ _ _ h))
+          (λ h. held-beside ss i b t k (ap (λ o. is-tile o t) m ∙ h) empty ∙ sym (cond-false _ _ _ h))
+          (cases-bool (is-tile (s .tile) t)),
+      λ h. held-read ss i s t k l e (apart-only ss i t a (ap (λ o. is-tile o t) m ∙ h)) h,
+    )
 
 -- a slot that goes below leaves every taken ink, and no pixel begins to wait
 pub emptied : (ss : List Slot) (i : ℕ) (s b : Slot) (p q : Picture) → i < length ss → Apart ss → s ≡ getD ss i s → b .tile ≡ None → Given (slot-inks s (p .wide)) p q → Given (λ u v. None) (cached ss p) (cached (set ss i b) q)
@@ -52,8 +53,10 @@ emptied ss i s b p q l a e n g = record {
   where
     below : (u v : ℕ) → On (cached ss p) u v → On p u v
     below u v o = record { column = o .column; row = o .row }
+
     same : (u v : ℕ) → held-for (set ss i b) (q .wide) u v ≡ held (set ss i b) (tile-of (p .wide) u v) (place u v)
     same u v = ap (λ m. held (set ss i b) (tile-of m u v) (place u v)) (g .sides .wide)
+
     taken : (u v : ℕ) → On p u v → valueOr (held-for (set ss i b) (q .wide) u v) (q .taken u v) ≡ valueOr (held-for ss (p .wide) u v) (p .taken u v)
     taken u v o =
         let x = emptied-held ss i s b (tile-of (p .wide) u v) (place u v) l a e n in
@@ -61,6 +64,7 @@ emptied ss i s b p q l a e n g = record {
         (λ h. ap₂ valueOr (same u v ∙ x .0 ∙ cond-true _ _ _ h) (g .taken u v o) ∙ ap (λ w. valueOr w (p .taken u v)) (cond-true _ _ _ h ∙ sym (x .1 h)))
         (λ h. ap₂ valueOr (same u v ∙ x .0 ∙ cond-false _ _ _ h) (g .taken u v o ∙ ap (λ w. valueOr w (p .taken u v)) (cond-false _ _ _ h)))
         (cases-bool (is-tile (s .tile) (tile-of (p .wide) u v)))
+
     calm : (u v : ℕ) → On p u v → (isSome (held-for ss (p .wide) u v) || p .waits u v) ≡ false → (isSome (held-for (set ss i b) (q .wide) u v) || q .waits u v) ≡ false
     calm u v o w =
         let x = emptied-held ss i s b (tile-of (p .wide) u v) (place u v) l a e n in
@@ -82,8 +86,8 @@ claimed ss i tile s p l free empty named bare = record {
     same : (t k : ℕ) → held (set ss i s) t k ≡ held ss t k
     same t k = ⊎-elim
         (λ h. let e : tile ≡ t = eqb-true _ _ (sym (ap (λ o. is-tile o t) named) ∙ h) in
-              let none : (j : ℕ) → is-tile (tile-at ss j) t ≡ false = λ j. ap (is-tile (tile-at ss j)) (sym e) ∙ free j in
-              held-only ss i s t k l (λ j n. none j) ∙ cond-true _ _ _ h ∙ bare k ∙ sym (held-none ss t k none))
+        let none : (j : ℕ) → is-tile (tile-at ss j) t ≡ false = λ j. ap (is-tile (tile-at ss j)) (sym e) ∙ free j in
+        held-only ss i s t k l (λ j n. none j) ∙ cond-true _ _ _ h ∙ bare k ∙ sym (held-none ss t k none))
         (λ h. held-beside ss i s t k (ap (λ o. is-tile o t) empty) h)
         (cases-bool (is-tile (s .tile) t))
 
@@ -106,36 +110,41 @@ put-given ss i s r p x y n ink l a e m kept inks fits inside = record {
   where
     run : ℕ → ℕ → Bool
     run u v = (leb x u && ltb u (x + n)) && eqb v y
+
     valued : (b : Bool) (o : Option ℕ) (d : ℕ) → valueOr (cond b (Some ink) o) d ≡ valueOr (cond b (Some ink) None) (valueOr o d)
     valued true o d = refl
     valued false o d = refl
+
     unrun : (u v : ℕ) → cond (run u v) (Some ink) None ≡ None → cond (run u v) (Some ink) (held-for ss (p .wide) u v) ≡ held-for ss (p .wide) u v
     unrun u v z = go (run u v) z
       where
         go : (b : Bool) → cond b (Some ink) None ≡ None → cond b (Some ink) (held-for ss (p .wide) u v) ≡ held-for ss (p .wide) u v
         go true z = let w : _≡_ {A = ℕ} 0 1 = cc in absurd (omega arith)
         go false z = refl
+
     here : (u v : ℕ) → u / 16 ≡ x / 16 → v / 16 ≡ y / 16 → (leb (place x y) (place u v) && ltb (place u v) (place x y + n)) ≡ run u v
     here u v c d = in-row x y n u v c d fits
+
     away : (u v : ℕ) → (tile-of (p .wide) x y ≡ tile-of (p .wide) u v → ⊥) → run u v ≡ false
     away u v h = ⊎-elim
         (λ q. let w = run-on x y n u v q in
-              let b : u / 16 ≡ x / 16 = omega (arith, w .from, w .to) in
-              absurd (h (sym (ap₂ (λ c d. d / 16 * ((p .wide + 15) / 16) + c) b (w .row)))))
+        let b : u / 16 ≡ x / 16 = omega (arith, w .from, w .to) in
+        absurd (h (sym (ap₂ (λ c d. d / 16 * ((p .wide + 15) / 16) + c) b (w .row)))))
         (λ q. q)
         (cases-bool (run u v))
+
     now-held : (u v : ℕ) → u < p .wide → held-for (set ss i r) (p .wide) u v ≡ cond (run u v) (Some ink) (held-for ss (p .wide) u v)
     now-held u v hu =
         let t = tile-of (p .wide) u v in
         let at = tile-read ss i s l e in
         ⊎-elim
         (λ h. let only = apart-only ss i t a (ap (λ o. is-tile o t) at ∙ h) in
-              let same = is-same (s .tile) (tile-of (p .wide) x y) t m h in
-              let c = one-tile (p .wide) x y u v inside hu same in
-              held-only ss i r t (place u v) l only ∙ cond-true _ _ _ (ap (λ o. is-tile o t) kept ∙ h) ∙ inks (place u v)
-              ∙ ap₂ (λ b o. cond b (Some ink) o) (here u v (c .0) (c .1)) (sym (held-read ss i s t (place u v) l e only h)))
+        let same = is-same (s .tile) (tile-of (p .wide) x y) t m h in
+        let c = one-tile (p .wide) x y u v inside hu same in
+        held-only ss i r t (place u v) l only ∙ cond-true _ _ _ (ap (λ o. is-tile o t) kept ∙ h) ∙ inks (place u v)
+        ∙ ap₂ (λ b o. cond b (Some ink) o) (here u v (c .0) (c .1)) (sym (held-read ss i s t (place u v) l e only h)))
         (λ h. held-beside ss i r t (place u v) (ap (λ o. is-tile o t) at ∙ h) (ap (λ o. is-tile o t) kept ∙ h)
-              ∙ sym (cond-false _ _ _ (away u v (λ q. both-ways _ h (ap (is-tile (s .tile)) (sym q) ∙ m)))))
+        ∙ sym (cond-false _ _ _ (away u v (λ q. both-ways _ h (ap (is-tile (s .tile)) (sym q) ∙ m)))))
         (cases-bool (is-tile (s .tile) t))
 
 -- a tile that no slot held is held by none after slot i was emptied

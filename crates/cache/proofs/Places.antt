@@ -27,10 +27,13 @@ pub put-none : {A : Type 0} (k : ℕ) (o : Option A) (xs : List (Option A)) → 
 put-none k o xs = (refl, λ j. let e : (leb k j && ltb j k) ≡ false = grind (arith, tells) in sym (cond-false _ _ _ e))
 
 pub put-more : {A : Type 0} (k i : ℕ) (o : Option A) (xs ys : List (Option A)) → k ≤ i → i < length ys → Put-to k i o xs ys → Put-to k (i + 1) o xs (set ys i o)
-put-more k i o xs ys h l p = (length-set ys i o ∙ p .0, λ j. ⊎-elim
-    (λ e. let q : (leb k j && ltb j (i + 1)) ≡ true = grind (arith, tells) in ap (λ m. getD (set ys i o) m None) e ∙ getD-set-same ys i o None l ∙ sym (cond-true _ _ _ q))
-    (λ e. let q : (leb k j && ltb j (i + 1)) ≡ (leb k j && ltb j i) = grind (arith, tells) in getD-set-other ys i j o None e ∙ p .1 j ∙ sym (ap (λ b. cond b o (getD xs j None)) q))
-    (cases-eq j i))
+put-more k i o xs ys h l p = (
+  length-set ys i o ∙ p .0,
+  λ j. ⊎-elim
+      (λ e. let q : (leb k j && ltb j (i + 1)) ≡ true = grind (arith, tells) in ap (λ m. getD (set ys i o) m None) e ∙ getD-set-same ys i o None l ∙ sym (cond-true _ _ _ q))
+      (λ e. let q : (leb k j && ltb j (i + 1)) ≡ (leb k j && ltb j i) = grind (arith, tells) in getD-set-other ys i j o None e ∙ p .1 j ∙ sym (ap (λ b. cond b o (getD xs j None)) q))
+      (cases-eq j i),
+)
 
 pub mapped-cond : {A B : Type 0} (f : A → B) (b : Bool) (x y : Option A) → mapped f (cond b x y) ≡ cond b (mapped f x) (mapped f y)
 mapped-cond f true x y = refl

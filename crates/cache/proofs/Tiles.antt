@@ -20,9 +20,9 @@ use Rattle.cache.proofs.Giving.{given-like}
 row-column : (t w a b : ℕ) → b < w → (eqb b (t % w) && eqb a (t / w)) ≡ eqb t (a * w + b)
 row-column t w a b h = ⊎-elim
     (λ e. let q = and-parts (eqb b (t % w)) (eqb a (t / w)) e in
-          let x : b ≡ t % w = eqb-true _ _ (q .0) in
-          let y : a ≡ t / w = eqb-true _ _ (q .1) in
-          e ∙ sym (eq-eqb t (a * w + b) (sym (div-add-mod' t w) ∙ sym (ap (λ m. m * w + b) y ∙ ap (λ m. t / w * w + m) x))))
+    let x : b ≡ t % w = eqb-true _ _ (q .0) in
+    let y : a ≡ t / w = eqb-true _ _ (q .1) in
+    e ∙ sym (eq-eqb t (a * w + b) (sym (div-add-mod' t w) ∙ sym (ap (λ m. m * w + b) y ∙ ap (λ m. t / w * w + m) x))))
     (λ e. e ∙ sym (ne-eqb t (a * w + b) (λ z. not-both e (eq-eqb b (t % w) (sym (ap (λ m. m % w) z ∙ mod-mul-add a w b h))) (eq-eqb a (t / w) (sym (ap (λ m. m / w) z ∙ div-mul-add a w b h))))))
     (cases-bool (eqb b (t % w) && eqb a (t / w)))
   where
@@ -39,8 +39,10 @@ whole-tile s t w p q e z g = given-like (part-inks s (t % c) (t / c) 0 256) (slo
     and-yes : (b : Bool) → (b && true) ≡ b
     and-yes true = refl
     and-yes false = refl
+
     c : ℕ
     c = (w + 15) / 16
+
     same : (u v : ℕ) → On p u v → part-inks s (t % c) (t / c) 0 256 u v ≡ slot-inks s (p .wide) u v
     same u v o =
         let small : place u v < 256 = omega arith in

@@ -21,6 +21,6 @@ cached-lawful ss p l = record {
   narrow = l .narrow;
   low = l .low;
   still = λ x y o w.
-    let z = or-parts _ _ w in
-    l .still x y (record { column = o .column; row = o .row }) (z .1) ∙ sym (ap (λ h. valueOr h (p .taken x y)) (nothing (held-for ss (p .wide) x y) (z .0)));
+      let z = or-parts _ _ w in
+      l .still x y (record { column = o .column; row = o .row }) (z .1) ∙ sym (ap (λ h. valueOr h (p .taken x y)) (nothing (held-for ss (p .wide) x y) (z .0)));
 }

@@ -18,7 +18,13 @@ fn pour_run<S: Surface>(below: &mut S, slot: &Slot, tx: u32, ty: u32, k: usize) 
         None => k + 1,
         Some(ink) => {
             let n = slot.same_run(k);
-            run_clipped(below, 16 * tx + (k % 16) as u32, 16 * ty + (k / 16) as u32, n as u32, ink);
+            run_clipped(
+                below,
+                16 * tx + (k % 16) as u32,
+                16 * ty + (k / 16) as u32,
+                n as u32,
+                ink,
+            );
             k + n
         }
     }

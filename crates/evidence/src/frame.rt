@@ -40,7 +40,12 @@ fn push_row<S: Surface>(bytes: &mut Vec<u8>, y: u16, surface: &S) -> Result<(), 
 }
 
 /// The frame of a surface of that size.
-pub fn frame_bytes<S: Surface>(heap: Global, width: u16, height: u16, surface: &S) -> Result<Vec<u8>, AllocError> {
+pub fn frame_bytes<S: Surface>(
+    heap: Global,
+    width: u16,
+    height: u16,
+    surface: &S,
+) -> Result<Vec<u8>, AllocError> {
     let mut bytes = Vec::new(heap);
     push_head(&mut bytes, width, height)?;
     for y in 0..height {

@@ -3,6 +3,7 @@
 mod frame;
 mod input;
 mod stop;
+
 use frame::frame_bytes;
 use frame::print_picture;
 use input::Input;
@@ -23,7 +24,13 @@ use surface::byte::ByteSurface;
 use surface::byte::panel::BytePanel;
 
 /// Prints the record of line k.
-fn print_record(rt: &LibcRuntime, font: &Font, k: u64, line: Line, list: &ShapeList) -> Result<(), Stop> {
+fn print_record(
+    rt: &LibcRuntime,
+    font: &Font,
+    k: u64,
+    line: Line,
+    list: &ShapeList,
+) -> Result<(), Stop> {
     let pixels = match line {
         Line::Shape { shape, .. } => list.covered(font, shape),
         _ => 0,
@@ -46,7 +53,13 @@ fn read_first(rt: &LibcRuntime, font: &Font, input: &mut Input) -> Result<ShapeL
 }
 
 /// Takes in one line after the first, and prints its record; false where the input has ended.
-fn read_next(rt: &LibcRuntime, font: &Font, k: u64, input: &mut Input, list: &mut ShapeList) -> Result<bool, Stop> {
+fn read_next(
+    rt: &LibcRuntime,
+    font: &Font,
+    k: u64,
+    input: &mut Input,
+    list: &mut ShapeList,
+) -> Result<bool, Stop> {
     let line = input.line(rt)?;
     if line.is_end() {
         return Ok(false);

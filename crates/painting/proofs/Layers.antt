@@ -54,7 +54,9 @@ painted d n o p q r e first s t law = record {
   where
     to-q : Same-sides o q
     to-q = sides-then o p q (first .sides) (s .sides)
+
     take-ink : (x y : ℕ) → On o x y → r .taken x y ≡ painting d x y
     take-ink x y h = t .taken x y (on-again o q x y to-q h) ∙ s .taken x y (on-again o p x y (first .sides) h) ∙ ap (topmost (λ m. shape-ink d x y (d .shapes m) m) 0) e
+
     show : (x y : ℕ) → On o x y → r .shown x y ≡ r .taken x y
     show x y h = law .still x y (on-again o r x y (sides-then o q r to-q (t .sides)) h) (t .calm x y (on-again o q x y to-q h))

@@ -42,8 +42,8 @@ pub laid-then : (a b c : ℕ → ℕ → Bool) (ink : ℕ) (p q r : Picture) →
 laid-then a b c ink p q r same s t = record {
   sides = sides-then p q r (s .sides) (t .sides);
   on = λ u v o e. ⊎-elim (λ h. t .on u v (on-again p q u v (s .sides) o) h)
-       (λ h. t .off u v (on-again p q u v (s .sides) o) h ∙ s .on u v o (first (a u v) (b u v) (sym (same u v) ∙ e) h))
-       (cases-bool (b u v));
+      (λ h. t .off u v (on-again p q u v (s .sides) o) h ∙ s .on u v o (first (a u v) (b u v) (sym (same u v) ∙ e) h))
+      (cases-bool (b u v));
   off = λ u v o e. let z = or-parts (a u v) (b u v) (sym (same u v) ∙ e) in t .off u v (on-again p q u v (s .sides) o) (z .1) ∙ s .off u v o (z .0);
 }
   where
@@ -105,9 +105,9 @@ row-step t y n v = grind (arith, tells)
 pub columns-more : (font : List ℕ) (f : Cell) (row n u v : ℕ) (b : Bool) → b ≡ lit font (f .glyph) n row → in-columns font f row (n + 1) u v ≡ (in-columns font f row n u v || (b && run-of (f .x + n) (f .y + row) 1 u v))
 columns-more font f row n u v b e = column-step (covers font (Figure f) u v) b (f .x) (f .y) row n u v
     (λ h k.
-      let a : u - f .x ≡ n = omega (arith, k) in
-      let c : v - f .y ≡ row = omega (arith, h) in
-      e ∙ sym (at (lit font (f .glyph) (u - f .x) (v - f .y)) h k ∙ ap₂ (λ i j. lit font (f .glyph) i j) a c))
+    let a : u - f .x ≡ n = omega (arith, k) in
+    let c : v - f .y ≡ row = omega (arith, h) in
+    e ∙ sym (at (lit font (f .glyph) (u - f .x) (v - f .y)) h k ∙ ap₂ (λ i j. lit font (f .glyph) i j) a c))
   where
     at : (t : Bool) → v ≡ f .y + row → u ≡ f .x + n → ((leb (f .x) u && leb (f .y) v) && t) ≡ t
     at t h k = grind (arith, tells)

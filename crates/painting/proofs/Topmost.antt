@@ -49,8 +49,8 @@ span-ink-none (Some s) n frame h = ⊎-elim (λ e. absurd (h s refl e)) (λ e. c
 pub ruling-in-words : (d : Drawing) (n own : ℕ) → Ruling-ink d n own (ruling d n own)
 ruling-in-words d n own = record {
   top = λ s span r above. topmost-top (λ m. span-ink (d .spans m) n (d .frame)) own 256 s (span .ink) (r .number)
-        (ap (λ o. span-ink o n (d .frame)) (r .given) ∙ cond-true (holds span n (d .frame)) _ _ (r .holding))
-        (λ m a b. span-ink-none (d .spans m) n (d .frame) (λ other e h. above m other a (record { number = b; given = e; holding = h })));
+      (ap (λ o. span-ink o n (d .frame)) (r .given) ∙ cond-true (holds span n (d .frame)) _ _ (r .holding))
+      (λ m a b. span-ink-none (d .spans m) n (d .frame) (λ other e h. above m other a (record { number = b; given = e; holding = h })));
   bare = λ none. topmost-bare (λ m. span-ink (d .spans m) n (d .frame)) own 256 (λ m b. span-ink-none (d .spans m) n (d .frame) (λ other e h. none m other (record { number = b; given = e; holding = h })));
 }
 
@@ -62,9 +62,9 @@ shape-ink-none d x y n (Some p) h = ⊎-elim (λ e. absurd (h p refl e)) (λ e. 
 pub painting-in-words : (d : Drawing) (x y : ℕ) → Fresh d x y (painting d x y)
 painting-in-words d x y = record {
   top = λ n item r above.
-        let e = topmost-top (λ m. shape-ink d x y (d .shapes m) m) 0 256 n (ruling d n (item .ink)) (r .number)
-                (ap (λ o. shape-ink d x y o n) (r .given) ∙ cond-true (covers (d .font) (item .shape) x y) _ _ (r .covering))
-                (λ m a b. shape-ink-none d x y m (d .shapes m) (λ other q h. above m other a (record { number = b; given = q; covering = h }))) in
-        subst (Ruling-ink d n (item .ink)) (sym e) (ruling-in-words d n (item .ink));
+      let e = topmost-top (λ m. shape-ink d x y (d .shapes m) m) 0 256 n (ruling d n (item .ink)) (r .number)
+      (ap (λ o. shape-ink d x y o n) (r .given) ∙ cond-true (covers (d .font) (item .shape) x y) _ _ (r .covering))
+      (λ m a b. shape-ink-none d x y m (d .shapes m) (λ other q h. above m other a (record { number = b; given = q; covering = h }))) in
+      subst (Ruling-ink d n (item .ink)) (sym e) (ruling-in-words d n (item .ink));
   bare = λ none. topmost-bare (λ m. shape-ink d x y (d .shapes m) m) 0 256 (λ m b. shape-ink-none d x y m (d .shapes m) (λ other e h. none m other (record { number = b; given = e; covering = h })));
 }

@@ -66,7 +66,13 @@ fn lay_row<S: Surface>(surface: &mut S, font: &Font, f: Cell, row: u16, ink: Ink
 {
     for column in 0..8u16 {
         let lit = font.lights(f.glyph, column, row);
-        lay_lit(surface, lit, f.x as u32 + column as u32, f.y as u32 + row as u32, ink);
+        lay_lit(
+            surface,
+            lit,
+            f.x as u32 + column as u32,
+            f.y as u32 + row as u32,
+            ink,
+        );
     }
 }
 

@@ -13,7 +13,14 @@ use std::alloc::Global;
 use surface::surface::Surface;
 
 /// The record of line k, which gives a shape that covers so many pixels.
-fn shape_record(heap: Global, k: u64, number: u16, shape: Shape, ink: u16, pixels: u32) -> Result<String, AllocError>
+fn shape_record(
+    heap: Global,
+    k: u64,
+    number: u16,
+    shape: Shape,
+    ink: u16,
+    pixels: u32,
+) -> Result<String, AllocError>
     ensures { λ r. ⌜ made r (λ s. string-bytes s ≡ shape-text k number shape ink pixels) ⌝ }
 {
     match shape {
@@ -29,11 +36,18 @@ pub fn line_record(heap: Global, k: u64, line: Line, pixels: u32) -> Result<Stri
 {
     match line {
         Line::Sheet { width, height } => format!(heap, "{k} sheet {width} x {height}"),
-        Line::Shape { number, shape, ink } => {
-            shape_record(heap, k, number, shape, ink, pixels)
-        }
-        Line::Span { number, shape, from, to, ink } => {
-            format!(heap, "{k} span {number}: shape {shape}, frames {from} to {to}, ink {ink}")
+        Line::Shape { number, shape, ink } => { shape_record(heap, k, number, shape, ink, pixels) }
+        Line::Span {
+            number,
+            shape,
+            from,
+            to,
+            ink,
+        } => {
+            format!(
+                heap,
+                "{k} span {number}: shape {shape}, frames {from} to {to}, ink {ink}"
+            )
         }
         Line::Frame { frame } => format!(heap, "{k} frame {frame}"),
     }

@@ -26,7 +26,13 @@ fn apply(list: &mut ShapeList, line: Line) -> Result<(), Fault>
     match line {
         Line::Sheet { .. } => Err(Fault::Form),
         Line::Shape { number, shape, ink } => Ok(list.place(number, shape, ink)?),
-        Line::Span { number, shape, from, to, ink } => Ok(list.span(number, shape, from, to, ink)?),
+        Line::Span {
+            number,
+            shape,
+            from,
+            to,
+            ink,
+        } => Ok(list.span(number, shape, from, to, ink)?),
         Line::Frame { frame } => {
             list.turn(frame);
             Ok(())

@@ -128,9 +128,5 @@ pub(super) fn held_ink(slots: &[Slot; 4], tile: u16, k: usize) -> Option<Ink>
     ensures { λ r. ⌜ mapped (λ i. i .value) r ≡ held (now (slots .entry)) tile k ⌝ }
 {
     let i = find(slots, tile);
-    if i < 4 {
-        slots[i].ink_at(k)
-    } else {
-        None
-    }
+    if i < 4 { slots[i].ink_at(k) } else { None }
 }

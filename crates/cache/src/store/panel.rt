@@ -26,7 +26,11 @@ impl<S: Surface> Cache<S> {
         ensures { λ r. ⌜ Settled (cached (self .slots) (S·Surface .view (self .below))) (S·Surface .view r) ⌝ }
     {
         self.empty_all();
-        let Cache { below: mut surface, slots: _, next: _ } = self;
+        let Cache {
+            below: mut surface,
+            slots: _,
+            next: _,
+        } = self;
         surface.settle();
         surface
     }

@@ -25,7 +25,7 @@ returns c =
     record {
       tile = c .loop-j .inv .0;
       inks = λ j.
-        ap (mapped (λ i. i .value)) (c .loop-j .inv .1 .1 j)
-        ∙ mapped-cond (λ i. i .value) (leb (c .args .k) j && ltb j (c .loop-j .j)) (Some (c .args .ink)) (getD (c .args .self .now .inks) j None)
-        ∙ ap (λ e. cond (leb (c .args .k) j && ltb j e) (Some (c .args .ink .value)) (ink-at (c .args .self .now) j)) end;
+          ap (mapped (λ i. i .value)) (c .loop-j .inv .1 .1 j)
+          ∙ mapped-cond (λ i. i .value) (leb (c .args .k) j && ltb j (c .loop-j .j)) (Some (c .args .ink)) (getD (c .args .self .now .inks) j None)
+          ∙ ap (λ e. cond (leb (c .args .k) j && ltb j e) (Some (c .args .ink .value)) (ink-at (c .args .self .now) j)) end;
     }

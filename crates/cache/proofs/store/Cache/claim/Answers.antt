@@ -29,5 +29,5 @@ returns g c =
       bound = c .args .self .now .turn;
       holds = ap (λ o. is-tile o (c .args .tile)) (tile-set ss i (c .blank .result) there ∙ c .blank .ensures .tile) ∙ eq-eqb (c .args .tile) (c .args .tile) refl;
       quiet = given-then (λ u v. None) (λ u v. None) (λ u v. None) _ _ _ (λ u v o. refl) (c .empty .ensures .quiet)
-        (claimed ss i (c .args .tile) (c .blank .result) (g .S·Surface .view (c .empty .last .self .below)) there free (c .empty .ensures .free) (c .blank .ensures .tile) (c .blank .ensures .inks));
+          (claimed ss i (c .args .tile) (c .blank .result) (g .S·Surface .view (c .empty .last .self .below)) there free (c .empty .ensures .free) (c .blank .ensures .tile) (c .blank .ensures .inks));
     }

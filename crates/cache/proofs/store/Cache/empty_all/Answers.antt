@@ -12,5 +12,5 @@ returns g c =
     record {
       quiet = c .loop-slot .inv .0;
       free = λ t k. held-none ss t k (λ j. ap (λ o. is-tile o t)
-        (⊎-elim (λ l. c .loop-slot .inv .1 j (omega (arith, c .loop-slot-test .left))) (λ l. tile-past ss j (omega (arith, c .loop-slot .self .four))) (cases-lt j 4)));
+          (⊎-elim (λ l. c .loop-slot .inv .1 j (omega (arith, c .loop-slot-test .left))) (λ l. tile-past ss j (omega (arith, c .loop-slot .self .four))) (cases-lt j 4)));
     }

@@ -35,7 +35,7 @@ returns g c =
     let p = g .S·Surface .view (c .claim-i .last .self .below) in
     let wide = c .size-width .ensures .wide ∙ sym (c .claim-i .ensures .quiet .sides .wide) in
     let held : is-tile (s .tile) (tile-of (p .wide) x y) ≡ true =
-        sym (ap (λ o. is-tile o (tile-of (p .wide) x y)) (tile-read ss i s there read)) ∙ sym (ap (is-tile (tile-at ss i)) (c .tile-in-tile .ensures ∙ ap (λ w. tile-of w x y) wide)) ∙ c .claim-i .ensures .holds in
+    sym (ap (λ o. is-tile o (tile-of (p .wide) x y)) (tile-read ss i s there read)) ∙ sym (ap (is-tile (tile-at ss i)) (c .tile-in-tile .ensures ∙ ap (λ w. tile-of w x y) wide)) ∙ c .claim-i .ensures .holds in
     let inside : x < p .wide = omega (arith, c .pre .inside .column, c .claim-i .ensures .quiet .sides .wide) in
     given-then (λ u v. None) (run-inks x y (c .args .n) (c .args .ink .value)) (run-inks x y (c .args .n) (c .args .ink .value)) _ _ _ (λ u v o. over-nothing _) (c .claim-i .ensures .quiet)
     (put-given ss i s (c .put .last .self) p x y (c .args .n) (c .args .ink .value) there (c .claim-i .last .self .apart) read held (c .put .ensures .tile) (c .put .ensures .inks) (c .pre .tile) inside)

@@ -22,10 +22,10 @@ returns c =
     let ink = c .in-Continue-ink .ensures tt in
     let there : n < length xs = search needs in
     let none : None ≡ place-refusal b n (c .args .shape) (c .args .ink) =
-        sym (unless-true _ 6 _ (lt-ltb n 256 (omega arith)) ∙ unless-true _ 9 _ (and-from _ _ (c .in-Continue-check-figures .ensures tt) (le-leb _ _ (ink .0))) ∙ unless-true _ 10 _ (c .in-Continue-check-bounds .ensures tt)) in
+    sym (unless-true _ 6 _ (lt-ltb n 256 (omega arith)) ∙ unless-true _ 9 _ (and-from _ _ (c .in-Continue-check-figures .ensures tt) (le-leb _ _ (ink .0))) ∙ unless-true _ 10 _ (c .in-Continue-check-bounds .ensures tt)) in
     record {
       answer = none;
       after = accepted _ b _ _ none (same-book _ _ refl refl
-        (λ k. put-there item xs n k _ (omega arith) there ∙ ap (λ i. cond (eqb k n) (Some (record { shape = c .args .shape; ink = i })) (b .shapes k)) (ink .1))
-        (λ s. refl) refl);
+          (λ k. put-there item xs n k _ (omega arith) there ∙ ap (λ i. cond (eqb k n) (Some (record { shape = c .args .shape; ink = i })) (b .shapes k)) (ink .1))
+          (λ s. refl) refl);
     }

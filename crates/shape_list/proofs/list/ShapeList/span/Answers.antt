@@ -28,14 +28,14 @@ returns c =
     let free : isSome (c .index-self-number .result) ≡ false = search needs in
     let used : isSome (c .index-self-shape .result) ≡ true = search needs in
     let none : None ≡ span-refusal b s (c .args .shape) (c .args .from) (c .args .to) (c .args .ink) =
-        sym (unless-true _ 6 _ (and-from _ _ (lt-ltb _ _ small) (lt-ltb _ _ known))
-        ∙ unless-true _ 7 _ (ap not (some-there turn xs s (c .index-self-number .result) small there (c .index-self-number .is) ∙ free))
-        ∙ unless-true _ 8 _ (some-there item (c .args .self .now .shapes) (c .args .shape) (c .index-self-shape .result) known named (c .index-self-shape .is) ∙ used)
-        ∙ unless-true _ 12 _ (le-leb _ _ (c .if-from-to .left))
-        ∙ unless-true _ 9 _ (le-leb _ _ (ink .0))) in
+    sym (unless-true _ 6 _ (and-from _ _ (lt-ltb _ _ small) (lt-ltb _ _ known))
+    ∙ unless-true _ 7 _ (ap not (some-there turn xs s (c .index-self-number .result) small there (c .index-self-number .is) ∙ free))
+    ∙ unless-true _ 8 _ (some-there item (c .args .self .now .shapes) (c .args .shape) (c .index-self-shape .result) known named (c .index-self-shape .is) ∙ used)
+    ∙ unless-true _ 12 _ (le-leb _ _ (c .if-from-to .left))
+    ∙ unless-true _ 9 _ (le-leb _ _ (ink .0))) in
     record {
       answer = none;
       after = accepted _ b _ _ none (same-book _ _ refl refl (λ k. refl)
-        (λ k. put-there turn xs s k _ small there ∙ ap (λ i. cond (eqb k s) (Some (record { shape = c .args .shape; from = c .args .from; to = c .args .to; ink = i })) (b .spans k)) (ink .1))
-        refl);
+          (λ k. put-there turn xs s k _ small there ∙ ap (λ i. cond (eqb k s) (Some (record { shape = c .args .shape; from = c .args .from; to = c .args .to; ink = i })) (b .spans k)) (ink .1))
+          refl);
     }
