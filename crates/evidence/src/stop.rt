@@ -8,8 +8,10 @@ use std::io;
 pub enum Stop {
     /// The line of that number was not taken.
     Fault(u64, Fault),
-    /// The arguments are not one file name or none.
+    /// The arguments are not as they should be.
     Usage,
+    /// No panel has that name.
+    Panel(String),
     /// Reading or writing failed.
     Io(io::Error),
     /// There is no memory.

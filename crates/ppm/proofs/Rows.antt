@@ -23,7 +23,7 @@ ink-written old k {i = i} {r = r} {g = g} {b = b} e₁ e₂ e₃ n₁ n₂ h c =
     ∙ ap₂ (λ x z. over old i (x ∷ g ∷ z ∷ [])) (c .0) (c .2)
     ∙ ap (λ z. over old i (red-of k ∷ z ∷ blue-of k ∷ [])) (c .1)
 
-counting-more : (n : ℕ) → counting 0 (n + 1) ≡ counting 0 n ++ n ∷ []
+pub counting-more : (n : ℕ) → counting 0 (n + 1) ≡ counting 0 n ++ n ∷ []
 counting-more n =
     sym (map-id (counting 0 (n + 1))) ∙ map-counting-more (λ x. x) 0 n n (omega arith) ∙ ap (λ xs. xs ++ n ∷ []) (map-id (counting 0 n))
 

@@ -1,6 +1,6 @@
 -- What head and row answer, and what they leave in the output, which held old before and holds new after. Assumes nothing.
 use mathlib.Core.Path.{_≡_}
-use mathlib.Core.List.{List, _++_}
+use mathlib.Core.List.{List, [], _++_}
 use mathlib.Core.Logic.{_⊎_}
 use Prim.Native.Nat.{ℕ, _*_, _≤_, _<_}
 use lib.ListN.{length, drop}
@@ -10,7 +10,7 @@ use Rattle.raster.specs.declared.refusal.Refusal.{Refusal}
 use Rattle.raster.specs.Refusals.{number}
 use Rattle.raster.specs.Sizes.{Side}
 use Rattle.surface.specs.Picture.{Picture}
-use Rattle.ppm.specs.Frames.{head-bytes, row-bytes}
+use Rattle.ppm.specs.Frames.{head-bytes, row-bytes, frame-bytes}
 
 -- both sides are sides, there is room for the longest head, and the head of n bytes stands before what is kept
 pub record Head-made (w h : ℕ) (old : List ℕ) (n : ℕ) (new : List ℕ) : Type 0 where
@@ -45,3 +45,8 @@ Row-refused p y old k = ((p .high ≤ y) × (k ≡ 10)) ⊎ ((y < p .high) × (l
 abbrev pub Rowed : Picture → ℕ → List ℕ → Result ℕ Refusal → List ℕ → Type 0
 Rowed p y old (Ok n) new = Row-made p y old n new
 Rowed p y old (Err e) new = Row-refused p y old (number e) × (new ≡ old)
+
+-- the frame of a picture whose sides are sides, and nothing of any other
+pub record Framed (p : Picture) (bytes : List ℕ) : Type 0 where
+  pub whole : Side (p .wide) → Side (p .high) → bytes ≡ frame-bytes p
+  pub empty : (Side (p .wide) × Side (p .high) → ⊥) → bytes ≡ []

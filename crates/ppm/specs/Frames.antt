@@ -28,3 +28,11 @@ row-bytes p y = front-bytes p y (p .wide)
 -- old, with the bytes from place i on
 unfoldable pub over : List ℕ → ℕ → List ℕ → List ℕ
 over old i bytes = take i old ++ (bytes ++ drop (i + length bytes) old)
+
+-- the first n rows
+unfoldable pub rows-bytes : Picture → ℕ → List ℕ
+rows-bytes p n = joined (row-bytes p) (counting 0 n)
+
+-- a frame is the head and then all rows
+abbrev pub frame-bytes : Picture → List ℕ
+frame-bytes p = head-bytes (p .wide) (p .high) ++ rows-bytes p (p .high)

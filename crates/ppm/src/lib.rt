@@ -1,15 +1,19 @@
 //! Frames as Netpbm P6.
 ghost use mathlib.Core.Path.{_≡_};
-ghost use mathlib.Core.List.{[], _∷_};
+ghost use mathlib.Core.List.{[], _∷_, _++_};
 ghost use Prim.Native.Nat.{_+_, _*_, _≤_, _<_};
 ghost use lib.ListN.{length};
+ghost use Rattle.std.specs.Of.Vec.{vec-items};
+ghost use Rattle.std.specs.Vec.{made};
 ghost use Rattle.std.specs.Written.{decimal};
 ghost use Rattle.ppm.specs.Frames.{head-bytes, ink-bytes, row-bytes, over};
-ghost use Rattle.ppm.specs.Calls.{Headed, Rowed};
+ghost use Rattle.ppm.specs.Calls.{Headed, Rowed, Framed};
 ghost use Rattle.surface.specs.Picture.{On};
 use raster::ink::colour::Colour;
 use raster::refusal::Refusal;
 use raster::size::Size;
+use std::alloc::AllocError;
+use std::alloc::Global;
 use surface::surface::Surface;
 
 /// The bytes that `head` asks of its output: as many as the longest head has.
@@ -126,4 +130,43 @@ fn put_number(n: u16, at: usize, output: &mut [u8]) -> usize
     }
     let last = put_number(n / 10, at, output);
     put_byte(b'0' + (n % 10) as u8, last, output)
+}
+
+/// Adds row y of the surface to the bytes of a frame.
+fn push_row<S: Surface>(bytes: &mut Vec<u8>, y: u16, surface: &S) -> Result<(), AllocError>
+    requires { ⌜ y < S·Surface .view (now surface) .high ⌝ }
+    ensures { λ r. ⌜ made r (λ _. vec-items (now (bytes .exit)) ≡ vec-items (now (bytes .entry)) ++ row-bytes (S·Surface .view (now (surface .entry))) y) ⌝ }
+{
+    let mut part = [0u8; 768];
+    match row(y, surface, &mut part) {
+        Ok(length) => bytes.extend_from_slice(&part[0..length]),
+        Err(_) => unreachable(),
+    }
+}
+
+/// Adds the head of a frame.
+fn push_head(bytes: &mut Vec<u8>, size: Size) -> Result<(), AllocError>
+    ensures { λ r. ⌜ made r (λ _. vec-items (now (bytes .exit)) ≡ vec-items (now (bytes .entry)) ++ head-bytes (size .width) (size .height)) ⌝ }
+{
+    let mut part = [0u8; 15];
+    match head(size.width, size.height, &mut part) {
+        Ok(length) => bytes.extend_from_slice(&part[0..length]),
+        Err(_) => unreachable(),
+    }
+}
+
+/// The whole frame of a surface; of a surface without pixels, nothing.
+pub fn frame<S: Surface>(heap: Global, surface: &S) -> Result<Vec<u8>, AllocError>
+    ensures { λ r. ⌜ made r (λ v. Framed (S·Surface .view (now (surface .entry))) (vec-items v)) ⌝ }
+{
+    let mut bytes = Vec::new(heap);
+    let (width, height) = surface.size();
+    let Ok(size) = Size::new(width, height) else {
+        return Ok(bytes);
+    };
+    push_head(&mut bytes, size)?;
+    for y in 0..height {
+        push_row(&mut bytes, y, surface)?;
+    }
+    Ok(bytes)
 }

@@ -1,0 +1,4 @@
+pub mod Bits
+pub mod Written
+pub mod Layers
+pub mod Inking

@@ -1,0 +1,2 @@
+//! The plane surface: four planes of bits in lent memory.
+pub mod planes;
