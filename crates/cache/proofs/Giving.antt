@@ -10,13 +10,8 @@ use Rattle.std.specs.declared.option.Option.{Option}
 use Rattle.std.specs.declared.option.Option.the-variants.{Some, None}
 use Rattle.surface.specs.Picture.{Picture, On, Same-sides}
 use Rattle.surface.specs.Calls.{On-run}
+use Rattle.surface.proofs.Sides.{sides-then, on-again}
 use Rattle.cache.specs.Cached.{Given}
-
-pub sides-then : (p q r : Picture) → Same-sides p q → Same-sides q r → Same-sides p r
-sides-then p q r a b = record { wide = b .wide ∙ a .wide; high = b .high ∙ a .high }
-
-pub on-again : (p q : Picture) (u v : ℕ) → Same-sides p q → On p u v → On q u v
-on-again p q u v s o = record { column = omega (arith, s .wide, o .column); row = omega (arith, s .high, o .row) }
 
 -- the later ink counts
 abbrev pub over : Option ℕ → Option ℕ → Option ℕ

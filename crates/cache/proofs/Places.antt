@@ -1,23 +1,17 @@
 -- The places of a slot, as it is made and written. Assumes nothing.
 use mathlib.Core.Path.{_≡_, refl, sym, ap, _∙_}
 use mathlib.Core.Bool.{Bool, true, false, cond, _&&_}
-use mathlib.Core.List.{List, [], _∷_}
+use mathlib.Core.List.{List}
 use mathlib.Core.Logic.{⊎-elim}
-use Prim.Native.Nat.{ℕ, zero, suc, _+_, _≤_, _<_}
+use Prim.Native.Nat.{ℕ, _+_, _≤_, _<_}
 use native.Mathlib.Omega.{arith}
 use lib.Dec.{leb, ltb}
-use lib.ListN.{length, getD, set, replicate, length-set}
+use lib.ListN.{length, getD, set, length-set}
 use lib.Seq.{getD-set-same, getD-set-other}
 use Rattle.std.proofs.shelf.Tests.{cases-eq, cases-bool, cond-true, cond-false}
 use Rattle.std.proofs.shelf.Ways.{tells}
-use Rattle.std.specs.Options.{mapped}
 use Rattle.std.specs.declared.option.Option.{Option}
 use Rattle.std.specs.declared.option.Option.the-variants.{Some, None}
-
-pub nothing-there : {A : Type 0} (n k : ℕ) → getD {A = Option A} (replicate n None) k None ≡ None
-nothing-there zero k = refl
-nothing-there (suc n) zero = refl
-nothing-there (suc n) (suc k) = nothing-there n k
 
 -- places from k up to i were given o
 abbrev pub Put-to : {A : Type 0} → ℕ → ℕ → Option A → List (Option A) → List (Option A) → Type 0
@@ -34,7 +28,3 @@ put-more k i o xs ys h l p = (
       (λ e. let q : (leb k j && ltb j (i + 1)) ≡ (leb k j && ltb j i) = grind (arith, tells) in getD-set-other ys i j o None e ∙ p .1 j ∙ sym (ap (λ b. cond b o (getD xs j None)) q))
       (cases-eq j i),
 )
-
-pub mapped-cond : {A B : Type 0} (f : A → B) (b : Bool) (x y : Option A) → mapped f (cond b x y) ≡ cond b (mapped f x) (mapped f y)
-mapped-cond f true x y = refl
-mapped-cond f false x y = refl

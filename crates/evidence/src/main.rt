@@ -135,13 +135,21 @@ fn paint<S: Surface>(rt: &LibcRuntime, list: ShapeList, surface: &mut S) -> Resu
 }
 
 /// The same on a cache over the surface.
-fn paint_cached<S: Surface + Drop>(rt: &LibcRuntime, list: ShapeList, surface: S) -> Result<Vec<u8>, Stop> {
+fn paint_cached<S: Surface + Drop>(
+    rt: &LibcRuntime,
+    list: ShapeList,
+    surface: S,
+) -> Result<Vec<u8>, Stop> {
     let mut cache = Cache::new(surface);
     paint(rt, list, &mut cache)
 }
 
 /// The same on a cache over a cache over the surface.
-fn paint_twice_cached<S: Surface + Drop>(rt: &LibcRuntime, list: ShapeList, surface: S) -> Result<Vec<u8>, Stop> {
+fn paint_twice_cached<S: Surface + Drop>(
+    rt: &LibcRuntime,
+    list: ShapeList,
+    surface: S,
+) -> Result<Vec<u8>, Stop> {
     paint_cached(rt, list, Cache::new(surface))
 }
 
@@ -154,7 +162,11 @@ fn paint_on(rt: &LibcRuntime, list: ShapeList, panel: Panel) -> Result<Vec<u8>, 
         Panel::Plane => paint(rt, list, &mut PlaneSurface::new(&mut memory, width, height)),
         Panel::CachedByte => paint_cached(rt, list, ByteSurface::new(&mut memory, width, height)),
         Panel::CachedPlane => paint_cached(rt, list, PlaneSurface::new(&mut memory, width, height)),
-        Panel::TwiceCachedPlane => paint_twice_cached(rt, list, PlaneSurface::new(&mut memory, width, height)),
+        Panel::TwiceCachedPlane => paint_twice_cached(
+            rt,
+            list,
+            PlaneSurface::new(&mut memory, width, height),
+        ),
     }
 }
 
@@ -178,7 +190,10 @@ fn main(rt: LibcRuntime) -> Result<(), Stop> {
     match &result {
         Err(Stop::Fault(k, fault)) => rt.println(fault_record(rt.alloc(), *k, *fault)?)?,
         Err(Stop::Usage) => eprintln!(rt, "usage: evidence [--panel NAME] [FRAME.ppm] < LIST")?,
-        Err(Stop::Panel(name)) => eprintln!(rt, "evidence: no panel is named {name}: byte, plane, cached-byte, cached-plane, twice-cached-plane")?,
+        Err(Stop::Panel(name)) => eprintln!(
+            rt,
+            "evidence: no panel is named {name}: byte, plane, cached-byte, cached-plane, twice-cached-plane"
+        )?,
         Err(Stop::Io(error)) => eprintln!(rt, "evidence: {error}")?,
         Err(Stop::Memory) => eprintln!(rt, "evidence: out of memory")?,
         Ok(()) => {}

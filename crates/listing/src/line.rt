@@ -1,9 +1,8 @@
 use raster::shape::Shape;
-use raster::shape::ShapeDebug;
 use raster::shape::ShapePartialEq;
 
 /// One line of a listing.
-#[derive(Clone, Copy, PartialEq, Eq, Debug)]
+#[derive(Clone, Copy, PartialEq, Eq)]
 pub enum Line {
     /// The sides of the sheet.
     Sheet {

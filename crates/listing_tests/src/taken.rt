@@ -1,5 +1,4 @@
 use listing::line::Line;
-use listing::line::LineDebug;
 use listing::line::LinePartialEq;
 use listing::parse::parse;
 use raster::shape::Cell;
@@ -14,7 +13,7 @@ fn sheet() -> Result<(), Fail> {
         width: 256,
         height: 0,
     };
-    check_eq(parse(b"sheet 256 0"), Some(line))
+    check(parse(b"sheet 256 0") == Some(line))
 }
 
 #[test]
@@ -30,7 +29,7 @@ fn shapes() -> Result<(), Fail> {
         shape,
         ink: 15,
     };
-    check_eq(parse(b"box 7 1 20 300 4000 15"), Some(line))?;
+    check(parse(b"box 7 1 20 300 4000 15") == Some(line))?;
     let shape = Shape::Line(Ends {
         x0: 1,
         y0: 2,
@@ -42,7 +41,7 @@ fn shapes() -> Result<(), Fail> {
         shape,
         ink: 5,
     };
-    check_eq(parse(b"line 0 1 2 3 4 5"), Some(line))?;
+    check(parse(b"line 0 1 2 3 4 5") == Some(line))?;
     let shape = Shape::Figure(Cell {
         x: 8,
         y: 16,
@@ -53,7 +52,7 @@ fn shapes() -> Result<(), Fail> {
         shape,
         ink: 1,
     };
-    check_eq(parse(b"figure 255 8 16 10 1"), Some(line))
+    check(parse(b"figure 255 8 16 10 1") == Some(line))
 }
 
 #[test]
@@ -65,11 +64,11 @@ fn span_and_frame() -> Result<(), Fail> {
         to: 20,
         ink: 2,
     };
-    check_eq(parse(b"span 3 7 10 20 2"), Some(line))?;
-    check_eq(parse(b"frame 12"), Some(Line::Frame { frame: 12 }))
+    check(parse(b"span 3 7 10 20 2") == Some(line))?;
+    check(parse(b"frame 12") == Some(Line::Frame { frame: 12 }))
 }
 
 #[test]
 fn largest_figure() -> Result<(), Fail> {
-    check_eq(parse(b"frame 65535"), Some(Line::Frame { frame: 65535 }))
+    check(parse(b"frame 65535") == Some(Line::Frame { frame: 65535 }))
 }

@@ -12,7 +12,7 @@ use Rattle.surface.specs.Picture.{Picture, On, Same-sides, Lawful}
 use Rattle.surface.specs.Calls.{Settled}
 use Rattle.painting.specs.Drawing.{Drawing, Item, topmost, ruling, shape-ink, painting, Fresh}
 use Rattle.painting.specs.Laid.{Laid, Over, Painted}
-use Rattle.painting.proofs.Laying.{same-again, on-again, on-back, sides-then}
+use Rattle.surface.proofs.Sides.{same-again, on-again, on-back, sides-then}
 use Rattle.painting.proofs.Topmost.{topmost-none, topmost-more, painting-in-words}
 
 -- every pixel has the ink of the first n shapes, laid one over the other

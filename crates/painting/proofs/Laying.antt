@@ -19,19 +19,8 @@ use Rattle.raster.specs.Fonts.{lit}
 use Rattle.raster.specs.Lines.{among}
 use Rattle.raster.specs.Shapes.{covers}
 use Rattle.surface.specs.Picture.{Picture, On, Same-sides}
+use Rattle.surface.proofs.Sides.{same-again, on-again, sides-then}
 use Rattle.painting.specs.Laid.{run-of, Laid}
-
-pub same-again : (p : Picture) → Same-sides p p
-same-again p = record { wide = refl; high = refl }
-
-pub on-again : (p q : Picture) (u v : ℕ) → Same-sides p q → On p u v → On q u v
-on-again p q u v s o = record { column = omega (arith, s .wide, o .column); row = omega (arith, s .high, o .row) }
-
-pub on-back : (p q : Picture) (u v : ℕ) → Same-sides p q → On q u v → On p u v
-on-back p q u v s o = record { column = omega (arith, s .wide, o .column); row = omega (arith, s .high, o .row) }
-
-pub sides-then : (p q r : Picture) → Same-sides p q → Same-sides q r → Same-sides p r
-sides-then p q r a b = record { wide = b .wide ∙ a .wide; high = b .high ∙ a .high }
 
 -- nothing is laid on an area that has no pixel of the surface
 pub laid-none : (area : ℕ → ℕ → Bool) (ink : ℕ) (p : Picture) → ((u v : ℕ) → On p u v → area u v ≡ false) → Laid area ink p p

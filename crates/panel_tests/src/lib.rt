@@ -20,6 +20,7 @@ use std::alloc::Global;
 use surface::byte::ByteSurface;
 use surface::byte::panel::BytePanel;
 use surface::surface::Surface;
+
 #[cfg(test)]
 mod tests;
 
@@ -37,9 +38,32 @@ fn placed(shape: Shape, value: u8) -> Option<Placed>
 fn painted<S: Surface>(heap: Global, surface: &mut S) -> Result<Vec<u8>, AllocError> {
     let font = Font::built_in();
     let shapes = [
-        placed(Shape::Box(Rect { x: 2, y: 1, w: 30, h: 20 }), 5),
-        placed(Shape::Line(Ends { x0: 39, y0: 0, x1: 0, y1: 23 }), 9),
-        placed(Shape::Figure(Cell { x: 13, y: 4, glyph: 8 }), 15),
+        placed(
+            Shape::Box(Rect {
+                x: 2,
+                y: 1,
+                w: 30,
+                h: 20,
+            }),
+            5,
+        ),
+        placed(
+            Shape::Line(Ends {
+                x0: 39,
+                y0: 0,
+                x1: 0,
+                y1: 23,
+            }),
+            9,
+        ),
+        placed(
+            Shape::Figure(Cell {
+                x: 13,
+                y: 4,
+                glyph: 8,
+            }),
+            15,
+        ),
     ];
     let spans = [Some(Span {
         shape: 1,
@@ -72,7 +96,10 @@ fn painted_cached<S: Surface + Drop>(heap: Global, surface: S) -> Result<Vec<u8>
     painted(heap, &mut cache)
 }
 
-fn painted_twice_cached<S: Surface + Drop>(heap: Global, surface: S) -> Result<Vec<u8>, AllocError> {
+fn painted_twice_cached<S: Surface + Drop>(
+    heap: Global,
+    surface: S,
+) -> Result<Vec<u8>, AllocError> {
     painted_cached(heap, Cache::new(surface))
 }
 

@@ -1,3 +1,4 @@
 pub mod Table
 pub mod Lines
 pub mod Shapes
+pub mod Tables

@@ -1,7 +1,7 @@
 pub mod cover;
 
 /// A box: the pixels from x to x + w - 1 and from y to y + h - 1.
-#[derive(Clone, Copy, PartialEq, Eq, Debug)]
+#[derive(Clone, Copy, PartialEq, Eq)]
 pub struct Rect {
     pub x: u16,
     pub y: u16,
@@ -10,7 +10,7 @@ pub struct Rect {
 }
 
 /// The two ends of a line.
-#[derive(Clone, Copy, PartialEq, Eq, Debug)]
+#[derive(Clone, Copy, PartialEq, Eq)]
 pub struct Ends {
     pub x0: u16,
     pub y0: u16,
@@ -19,7 +19,7 @@ pub struct Ends {
 }
 
 /// A glyph in a cell of 8 by 16 pixels, whose top left pixel is (x, y).
-#[derive(Clone, Copy, PartialEq, Eq, Debug)]
+#[derive(Clone, Copy, PartialEq, Eq)]
 pub struct Cell {
     pub x: u16,
     pub y: u16,
@@ -27,7 +27,7 @@ pub struct Cell {
 }
 
 /// What a sheet is made of.
-#[derive(Clone, Copy, PartialEq, Eq, Debug)]
+#[derive(Clone, Copy, PartialEq, Eq)]
 pub enum Shape {
     Box(Rect),
     Line(Ends),

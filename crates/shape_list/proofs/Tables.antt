@@ -3,7 +3,7 @@ use mathlib.Core.Path.{_≡_, refl, sym, ap, _∙_}
 use mathlib.Core.Bool.{Bool, true, false, cond}
 use mathlib.Core.List.{List}
 use mathlib.Core.Logic.{⊎-elim}
-use Prim.Native.Nat.{ℕ, zero, suc, _<_}
+use Prim.Native.Nat.{ℕ, _<_}
 use lib.Dec.{eqb, ltb}
 use lib.ListN.{length, getD, set, replicate}
 use lib.Seq.{getD-set-same, getD-set-other}
@@ -12,20 +12,12 @@ use Rattle.std.proofs.shelf.Lists.{getD-default}
 use Rattle.std.specs.Options.{isSome, mapped}
 use Rattle.std.specs.declared.option.Option.{Option}
 use Rattle.std.specs.declared.option.Option.the-variants.{Some, None}
+use Rattle.raster.proofs.Tables.{nothing-read, mapped-cond}
 use Rattle.painting.specs.Scenes.{at-number}
 use Rattle.shape_list.specs.Book.{put}
 
 pub nothing-there : {A : Type 0} (m n : ℕ) → at-number {A = A} (replicate m None) n ≡ None
-nothing-there m n = ⊎-elim (λ e. cond-true (ltb n 256) _ None e ∙ go m n) (λ e. cond-false (ltb n 256) _ None e) (cases-bool (ltb n 256))
-  where
-    go : {A : Type 0} (m n : ℕ) → getD {A = Option A} (replicate m None) n None ≡ None
-    go zero n = refl
-    go (suc m) zero = refl
-    go (suc m) (suc n) = go m n
-
-mapped-cond : {A B : Type 0} (f : A → B) (b : Bool) (x y : Option A) → mapped f (cond b x y) ≡ cond b (mapped f x) (mapped f y)
-mapped-cond f true x y = refl
-mapped-cond f false x y = refl
+nothing-there m n = ⊎-elim (λ e. cond-true (ltb n 256) _ None e ∙ nothing-read m n) (λ e. cond-false (ltb n 256) _ None e) (cases-bool (ltb n 256))
 
 -- what stands at each number after a write
 pub put-there : {A B : Type 0} (f : A → B) (xs : List (Option A)) (n k : ℕ) (o : Option A) → n < 256 → n < length xs → mapped f (at-number (set xs n o) k) ≡ put (λ j. mapped f (at-number xs j)) n (mapped f o) k

@@ -5,7 +5,7 @@ use super::Ink;
 use crate::refusal::Refusal;
 
 /// Red, green and blue.
-#[derive(Clone, Copy, PartialEq, Eq, Debug)]
+#[derive(Clone, Copy)]
 pub struct Colour {
     pub red: u8,
     pub green: u8,

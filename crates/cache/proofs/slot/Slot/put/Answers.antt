@@ -8,7 +8,8 @@ use lib.ListN.{length, getD}
 use Rattle.std.specs.Options.{mapped}
 use Rattle.std.specs.declared.option.Option.the-variants.{Some, None}
 use Rattle.cache.specs.Slots.{ink-at}
-use Rattle.cache.proofs.Places.{put-none, put-more, mapped-cond}
+use Rattle.raster.proofs.Tables.{mapped-cond}
+use Rattle.cache.proofs.Places.{put-none, put-more}
 use Rattle.cache.proofs.slot.Slot.put.Needs as need
 
 pub loop-j-holds : need.loop-j-holds
