@@ -1,0 +1,3 @@
+mod piles;
+mod plain;
+mod waits;
