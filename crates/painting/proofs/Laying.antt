@@ -22,10 +22,6 @@ use Rattle.surface.specs.Picture.{Picture, On, Same-sides}
 use Rattle.surface.proofs.Sides.{same-again, on-again, sides-then}
 use Rattle.painting.specs.Laid.{run-of, Laid}
 
--- nothing is laid on an area that has no pixel of the surface
-pub laid-none : (area : ℕ → ℕ → Bool) (ink : ℕ) (p : Picture) → ((u v : ℕ) → On p u v → area u v ≡ false) → Laid area ink p p
-laid-none area ink p h = record { sides = same-again p; on = λ u v o e. absurd (both-ways _ (h u v o) e); off = λ u v o e. refl }
-
 -- one area and then another is both
 pub laid-then : (a b c : ℕ → ℕ → Bool) (ink : ℕ) (p q r : Picture) → ((u v : ℕ) → c u v ≡ (a u v || b u v)) → Laid a ink p q → Laid b ink q r → Laid c ink p r
 laid-then a b c ink p q r same s t = record {
@@ -78,9 +74,6 @@ in-columns font f row n u v = (covers font (Figure f) u v && eqb v (f .y + row))
 abbrev pub in-rows : List ℕ → Cell → ℕ → ℕ → ℕ → Bool
 in-rows font f n u v = covers font (Figure f) u v && ltb v (f .y + n)
 
-pub columns-none : (font : List ℕ) (f : Cell) (row u v : ℕ) → in-columns font f row 0 u v ≡ false
-columns-none font f row u v = grind (arith, tells)
-
 column-step : (t b : Bool) (x y row n u v : ℕ) → (v ≡ y + row → u ≡ x + n → b ≡ t) → ((t && eqb v (y + row)) && ltb u (x + (n + 1))) ≡ (((t && eqb v (y + row)) && ltb u (x + n)) || (b && run-of (x + n) (y + row) 1 u v))
 column-step t b x y row n u v h = ⊎-elim
     (λ p. ⊎-elim (λ q. let e = h p q in grind (arith, tells)) (λ q. grind (arith, tells)) (cases-eq u (x + n)))
@@ -104,9 +97,3 @@ columns-more font f row n u v b e = column-step (covers font (Figure f) u v) b (
 -- one row more
 pub rows-more : (font : List ℕ) (f : Cell) (n u v : ℕ) → in-rows font f (n + 1) u v ≡ (in-rows font f n u v || (covers font (Figure f) u v && eqb v (f .y + n)))
 rows-more font f n u v = row-step (covers font (Figure f) u v) (f .y) n v
-
-pub rows-all : (font : List ℕ) (f : Cell) (u v : ℕ) → in-rows font f 16 u v ≡ covers font (Figure f) u v
-rows-all font f u v = all (leb (f .x) u) (eqb (getD font (16 * f .glyph + (v - f .y)) 0 / 2 ^ (7 - (u - f .x)) % 2) 1)
-  where
-    all : (a e : Bool) → (((a && leb (f .y) v) && ((ltb (f .glyph) 16 && (ltb (u - f .x) 8 && ltb (v - f .y) 16)) && e)) && ltb v (f .y + 16)) ≡ ((a && leb (f .y) v) && ((ltb (f .glyph) 16 && (ltb (u - f .x) 8 && ltb (v - f .y) 16)) && e))
-    all a e = grind (arith, tells)
