@@ -1,5 +1,6 @@
 //! Paints a sheet whole from its list of shapes: prints a record and the picture in characters and, with a file name,
 //! writes a Netpbm frame.
+#![tactic(auto)]
 mod input;
 mod panel;
 mod picture;

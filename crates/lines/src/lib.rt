@@ -1,2 +1,4 @@
 //! The pixels of a line.
+#![tactic(auto)]
+
 pub mod line;

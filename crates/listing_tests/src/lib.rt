@@ -1,4 +1,5 @@
 //! Tests of the listing's text.
+#![tactic(auto)]
 #[cfg(test)]
 mod refused;
 #[cfg(test)]

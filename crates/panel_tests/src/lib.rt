@@ -1,4 +1,5 @@
 //! One scene painted on every panel: the frames are the same, byte by byte.
+#![tactic(auto)]
 ghost use Rattle.std.specs.Prelude.{◌≤◌};
 
 use cache::store::Cache;

@@ -1,4 +1,5 @@
 //! Tests of the frames, on a small surface of their own.
+#![tactic(auto)]
 pub mod card;
 #[cfg(test)]
 mod tests;

@@ -1,4 +1,5 @@
 //! How nine entries are shared out into two groups: Guttman's quadratic split.
+#![tactic(auto)]
 pub mod choose;
 mod extents;
 mod groups;

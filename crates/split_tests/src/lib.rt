@@ -1,3 +1,4 @@
 //! Tests of the quadratic split and of its choosing steps.
+#![tactic(auto)]
 #[cfg(test)]
 mod tests;

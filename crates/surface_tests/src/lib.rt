@@ -1,4 +1,5 @@
 //! Tests of the byte surface.
+#![tactic(auto)]
 use raster::refusal::Refusal;
 
 /// Whether a call was refused as every surface refuses.

@@ -10,5 +10,5 @@ returns-then-x-min c = sym (course_beside c.args.self c.args.x c.args.y
 
 pub returns : goal.returns
 returns c =
-    ap (λ h. eqb h c.args.y) (c.height-after.ensures ∙ ap (λ i. (flat c.args.self i).1) c.abs-diff.ensures)
+    ap (λ h. eqb h c.args.y) (c.height_after.ensures ∙ ap (λ i. (flat c.args.self i).1) c.abs_diff.ensures)
     ∙ sym (course_within c.args.self c.args.x c.args.y (omega arith) (omega arith))
