@@ -3,8 +3,8 @@ use Rattle.extent.specs.Axis.{extent_of}
 use Rattle.extent.specs.AxisLemmas.{area_grows}
 use Rattle.extent.proofs.plane_box.PlaneBoxMeasured.growth.Goals as goal
 
-pub overflow-sub-result : goal.overflow-sub-result
-overflow-sub-result c =
+pub overflow_sub-result : goal.overflow_sub-result
+overflow_sub-result c =
     let a = c.args.self.now in
     let b = c.args.other.now in
     let e = c.size.ensures.value ∙ ap (λ v. extent_of v.left v.right * extent_of v.top v.bottom) c.join.ensures in
