@@ -1,5 +1,6 @@
 //! A surface's picture in characters, a row at a time.
 #![tactic(auto)]
+
 ghost use Rattle.std.specs.Prelude.{◌≡◌, ◌<◌, IfOk, string_bytes};
 ghost use Rattle.letters.specs.Letters.{letter_of, row_text};
 ghost use Rattle.surface.specs.Picture.{On};

@@ -1,5 +1,6 @@
 //! The text of a sheet's listing, one line at a time.
 #![tactic(auto)]
+
 mod figures;
 pub mod line;
 pub mod parse;

@@ -1,5 +1,6 @@
 //! Tests of the listing's text.
 #![tactic(auto)]
+
 #[cfg(test)]
 mod refused;
 #[cfg(test)]

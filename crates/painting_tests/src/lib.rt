@@ -1,4 +1,5 @@
 //! Tests of the fresh painting, on small byte surfaces.
 #![tactic(auto)]
+
 #[cfg(test)]
 mod tests;

@@ -1,3 +1,4 @@
 //! The plane surface: four planes of bits in lent memory.
 #![tactic(auto)]
+
 pub mod planes;

@@ -1,5 +1,6 @@
 //! Tests of the plane surface.
 #![tactic(auto)]
+
 use raster::refusal::Refusal;
 
 /// Whether a call was refused as every surface refuses.

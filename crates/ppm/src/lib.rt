@@ -1,5 +1,6 @@
 //! Frames as Netpbm P6.
 #![tactic(auto)]
+
 ghost use Rattle.std.specs.Prelude.{◌≡◌, ◌+◌, ◌*◌, ◌<◌, ◌≤◌, [], ◌∷◌, ◌++◌, length, IfOk, decimal, OnOk};
 ghost use Rattle.ppm.specs.Frames.{head_bytes, ink_bytes, row_bytes_lem, over};
 ghost use Rattle.ppm.specs.Calls.{Headed, Rowed, Framed};

@@ -1,4 +1,5 @@
 //! Tests of the shapes, their pixels and their bounds.
 #![tactic(auto)]
+
 #[cfg(test)]
 mod tests;

@@ -1,5 +1,6 @@
 //! The laws of trees, for every measured kind of extents, as the contract of one function.
 #![tactic(auto)]
+
 ghost use Rattle.std.specs.Prelude.{◌≡◌};
 ghost use Rattle.tree_laws.specs.All.{TreeLaws};
 

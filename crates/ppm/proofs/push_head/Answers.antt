@@ -6,4 +6,4 @@ pub returns : goal.returns
 returns c =
     let bytes = head_bytes c.args.size.width c.args.size.height in
     let m = c.in-Ok.ensures in
-    extended c.extend-from-slice.result _ _ _ bytes c.extend-from-slice.ensures.items (front_written _ bytes _ c.in-Ok.length m.bytes m.answer)
+    extended c.extend_from_slice.result _ _ _ bytes c.extend_from_slice.ensures.items (front_written _ bytes _ c.in-Ok.length m.bytes m.answer)

@@ -8,4 +8,4 @@ pub returns : goal.returns
 returns g c =
     let p = g.S.Surface.view c.args.surface.now in
     let m = c.in-Ok.ensures in
-    extended c.extend-from-slice.result _ _ _ (row_bytes_lem p c.args.y) c.extend-from-slice.ensures.items (front_written _ (row_bytes_lem p c.args.y) _ c.in-Ok.length m.bytes (m.answer ∙ sym (length_front p c.args.y p.wide)))
+    extended c.extend_from_slice.result _ _ _ (row_bytes_lem p c.args.y) c.extend_from_slice.ensures.items (front_written _ (row_bytes_lem p c.args.y) _ c.in-Ok.length m.bytes (m.answer ∙ sym (length_front p c.args.y p.wide)))

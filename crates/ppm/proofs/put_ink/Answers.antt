@@ -7,10 +7,10 @@ returns c =
     ink_written
     c.args.output.now
     c.args.ink
-    c.put-byte-at.ensures.after
-    c.put-byte-at-2.ensures.after
-    c.put-byte.ensures.after
-    c.put-byte-at.ensures.next
-    c.put-byte-at-2.ensures.next
+    c.put_byte-at.ensures.after
+    c.put_byte-at-2.ensures.after
+    c.put_byte.ensures.after
+    c.put_byte-at.ensures.next
+    c.put_byte-at-2.ensures.next
     (omega arith)
-    c.of-ink-colour.ensures
+    c.of_ink-colour.ensures

@@ -5,5 +5,5 @@ use Rattle.ppm.proofs.put_text.Goals as goal
 pub returns : goal.returns
 returns c = record {
   next = refl;
-  after = over_part c.args.output.now c.args.at _ c.args.text.now _ c.copy-from-slice.ensures.after (omega arith);
+  after = over_part c.args.output.now c.args.at _ c.args.text.now _ c.copy_from_slice.ensures.after (omega arith);
 }

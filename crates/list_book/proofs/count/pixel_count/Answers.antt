@@ -6,4 +6,4 @@ pub loop-y-init : goal.loop-y-init
 loop-y-init c = (sym (rows_none _ _), omega arith)
 
 pub loop-y-preserved : goal.loop-y-preserved
-loop-y-preserved c = (ap₂ ◌+◌ c.loop-y.invariant.0 c.row-count-count.ensures.value ∙ sym (rows_more _ _ _), omega arith)
+loop-y-preserved c = (ap₂ ◌+◌ c.loop-y.invariant.0 c.row_count-count.ensures.value ∙ sym (rows_more _ _ _), omega arith)

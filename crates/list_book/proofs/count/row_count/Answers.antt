@@ -7,4 +7,4 @@ loop-x-init c = (sym (tally_none _), omega arith)
 
 pub loop-x-preserved : goal.loop-x-preserved
 loop-x-preserved c =
-    (ap₂ ◌+◌ c.loop-x.invariant.0 (c.one-if-count.ensures.value ∙ ap (λ b. cond b 1 0) c.covers.ensures) ∙ sym (tally_more _ _), omega (arith, c.one-if-count.ensures.bound, c.loop-x.invariant.1))
+    (ap₂ ◌+◌ c.loop-x.invariant.0 (c.one_if-count.ensures.value ∙ ap (λ b. cond b 1 0) c.covers.ensures) ∙ sym (tally_more _ _), omega (arith, c.one_if-count.ensures.bound, c.loop-x.invariant.1))

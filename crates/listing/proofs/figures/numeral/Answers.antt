@@ -4,29 +4,29 @@ use Rattle.listing.proofs.figures.numeral.Goals as goal
 
 pub returns-in-empty : goal.returns-in-empty
 returns-in-empty c =
-    let ds = c.split-at.result.0.now in
-    let cut = parts _ c.leading-digits.result ds _ c.leading-digits.ensures c.split-at.ensures.front c.split-at.ensures.back in
+    let ds = c.split_at.result.0.now in
+    let cut = parts _ c.leading_digits.result ds _ c.leading_digits.ensures c.split_at.ensures.front c.split_at.ensures.back in
     let none : length ds ≡ 0 = search rules in
     none_empty _ ds _ cut none
 
 pub returns-in-48 : goal.returns-in-48
 returns-in-48 c =
-    let ds = c.split-at.result.0.now in
-    let cut = parts _ c.leading-digits.result ds _ c.leading-digits.ensures c.split-at.ensures.front c.split-at.ensures.back in
+    let ds = c.split_at.result.0.now in
+    let cut = parts _ c.leading_digits.result ds _ c.leading_digits.ensures c.split_at.ensures.front c.split_at.ensures.back in
     let two : 1 < length ds = search rules in
     let first : get_or ds 0 0 ≡ 48 = search rules in
     none_zero _ ds _ cut two first
 
 pub returns-in-err-number : goal.returns-in-err-number
 returns-in-err-number c =
-    let ds = c.split-at.result.0.now in
-    let cut = parts _ c.leading-digits.result ds _ c.leading-digits.ensures c.split-at.ensures.front c.split-at.ensures.back in
-    rw c.from-residual.ensures (none_large _ ds _ cut c.in-err-number.ensures)
+    let ds = c.split_at.result.0.now in
+    let cut = parts _ c.leading_digits.result ds _ c.leading_digits.ensures c.split_at.ensures.front c.split_at.ensures.back in
+    rw c.from_residual.ensures (none_large _ ds _ cut c.in-err-number.ensures)
 
 pub returns-in-ok-number : goal.returns-in-ok-number
 returns-in-ok-number c =
-    let ds = c.split-at.result.0.now in
-    let cut = parts _ c.leading-digits.result ds _ c.leading-digits.ensures c.split-at.ensures.front c.split-at.ensures.back in
+    let ds = c.split_at.result.0.now in
+    let cut = parts _ c.leading_digits.result ds _ c.leading_digits.ensures c.split_at.ensures.front c.split_at.ensures.back in
     let read = c.in-ok-number.ensures in
     let some : 0 < length ds = search rules in
     let lead : get_or ds 0 0 ≡ 48 → length ds ≡ 1 = search rules in

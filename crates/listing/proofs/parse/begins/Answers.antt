@@ -5,5 +5,5 @@ use Rattle.std.proofs.lemmas.Bool.Decides.{Decides-eqb}
 
 pub returns : goal.returns
 returns c =
-    begins_stands c.args.bytes.now c.spelling.result.now c.args.word c.starts-with.result c.spelling.ensures
-    (starts_is Decides-eqb c.args.bytes.now c.spelling.result.now c.starts-with.result c.starts-with.ensures.value)
+    begins_stands c.args.bytes.now c.spelling.result.now c.args.word c.starts_with.result c.spelling.ensures
+    (starts_is Decides-eqb c.args.bytes.now c.spelling.result.now c.starts_with.result c.starts_with.ensures.value)

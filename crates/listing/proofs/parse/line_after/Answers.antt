@@ -5,7 +5,7 @@ use Rattle.listing.proofs.parse.line_after.Goals as goal
 
 pub returns-in-err-width : goal.returns-in-err-width
 returns-in-err-width c =
-    rw c.from-residual.ensures (no_figures _ words.Sheet _ c.in-Sheet.is c.in-err-width.ensures)
+    rw c.from_residual.ensures (no_figures _ words.Sheet _ c.in-Sheet.is c.in-err-width.ensures)
 
 pub returns-in-ok-width : goal.returns-in-ok-width
 returns-in-ok-width c =

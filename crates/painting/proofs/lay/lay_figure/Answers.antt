@@ -9,4 +9,4 @@ loop-row-preserved g c =
     let font = c.args.font.now.rows in
     let f = c.args.f in
     let n = c.loop-row.row in
-    laid_then (in_rows font f n) (λ u v. covers font (Figure f) u v && eqb v (f.y + n)) (in_rows font f (n + 1)) _ _ _ _ (rows_more font f n) c.loop-row.invariant c.lay-row.ensures
+    laid_then (in_rows font f n) (λ u v. covers font (Figure f) u v && eqb v (f.y + n)) (in_rows font f (n + 1)) _ _ _ _ (rows_more font f n) c.loop-row.invariant c.lay_row.ensures

@@ -11,4 +11,4 @@ loop-column-preserved g c =
     let n = c.loop-column.column in
     laid_then (in_columns font f row n) (λ u v. c.lights-lit.result && run_of (f.x + n) (f.y + row) 1 u v) (in_columns font f row (n + 1)) _ _ _ _
     (λ u v. columns_more font f row n u v c.lights-lit.result c.lights-lit.ensures)
-    c.loop-column.invariant c.lay-lit.ensures
+    c.loop-column.invariant c.lay_lit.ensures

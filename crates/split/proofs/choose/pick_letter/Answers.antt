@@ -27,7 +27,7 @@ returns c =
     let a = get_or c.args.counts 0 0 in
     let b = get_or c.args.counts 1 0 in
     record {
-      value = c.pick-group.ensures ∙ sym (letter_picked _ _ _ _ a b (λ e. omega arith) (λ e. omega arith));
+      value = c.pick_group.ensures ∙ sym (letter_picked _ _ _ _ a b (λ e. omega arith) (λ e. omega arith));
       «all_to_a» = λ e. omega arith;
       «all_to_b» = λ h e. omega arith;
     }

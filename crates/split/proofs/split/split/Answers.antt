@@ -10,18 +10,18 @@ use Rattle.split.proofs.split.split.Goals as goal
 
 pub loop-n-init : goal.loop-n-init
 loop-n-init g c =
-    shared_none g.M.Measured.measure g.M.Extent.joined (nine c.args.row.now c.args.last) c.sizes.result c.join-sizes.result c.pick-seeds-seeds.result (groups_of c.start-so-far.result)
-    c.sizes.ensures c.join-sizes.ensures c.pick-seeds-seeds.ensures.chosen c.start-so-far.ensures
+    shared_none g.M.Measured.measure g.M.Extent.joined (nine c.args.row.now c.args.last) c.sizes.result c.join_sizes.result c.pick_seeds-seeds.result (groups_of c.start-so_far.result)
+    c.sizes.ensures c.join_sizes.ensures c.pick_seeds-seeds.ensures.chosen c.start-so_far.ensures
 
-pub share-one-so-far-requires : goal.share-one-so-far-requires
-share-one-so-far-requires g c =
+pub share_one-so_far-requires : goal.share_one-so_far-requires
+share_one-so_far-requires g c =
     let s = (shared_fair g.M.Measured.measure g.M.Extent.joined (nine c.args.row.now c.args.last) c.loop-n.n (omega arith)).1 in
     let n = ap (λ z. z.na + z.nb) c.loop-n.invariant in
     omega arith
 
 pub loop-n-preserved : goal.loop-n-preserved
 loop-n-preserved g c =
-    shared_more g.M.Measured.measure g.M.Extent.joined (nine c.args.row.now c.args.last) c.loop-n.n (groups_of c.loop-n.so_far) (groups_of c.share-one-so-far.result) c.loop-n.invariant c.share-one-so-far.ensures
+    shared_more g.M.Measured.measure g.M.Extent.joined (nine c.args.row.now c.args.last) c.loop-n.n (groups_of c.loop-n.so_far) (groups_of c.share_one-so_far.result) c.loop-n.invariant c.share_one-so_far.ensures
 
 pub returns : goal.returns
 unfolding split9

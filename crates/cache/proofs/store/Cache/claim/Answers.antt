@@ -6,8 +6,8 @@ use Rattle.cache.proofs.Held.{apart_set, tile_set}
 use Rattle.cache.proofs.Moves.{claimed, still_free}
 use Rattle.cache.proofs.store.Cache.claim.Goals as goal
 
-pub invariant-of-self : goal.invariant-of-self
-invariant-of-self g c =
+pub invariant_of-self : goal.invariant_of-self
+invariant_of-self g c =
     let ss = c.empty.new.self.slots in
     let i = c.args.self.now.next in
     let there : i < length ss = search rules in

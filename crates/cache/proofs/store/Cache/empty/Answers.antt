@@ -5,8 +5,8 @@ use Rattle.cache.proofs.Held.{apart_set, tile_set, tile_kept}
 use Rattle.cache.proofs.Moves.{emptied}
 use Rattle.cache.proofs.store.Cache.empty.Goals as goal
 
-pub invariant-of-self : goal.invariant-of-self
-invariant-of-self g c =
+pub invariant_of-self : goal.invariant_of-self
+invariant_of-self g c =
     let ss = c.args.self.now.slots in
     let there : c.args.i < length ss = search rules in
     (simp length-set c.args.self.now.four, (c.args.self.now.turn, (apart_set ss c.args.i c.blank.result there c.args.self.now.apart (λ j n. ap (λ o. same_tile o (tile_at ss j)) c.blank.ensures.tile), tt)))

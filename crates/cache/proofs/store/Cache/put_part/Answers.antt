@@ -8,8 +8,8 @@ use Rattle.cache.proofs.Held.{apart_set, tile_read}
 use Rattle.cache.proofs.Moves.{put_given}
 use Rattle.cache.proofs.store.Cache.put_part.Goals as goal
 
-pub invariant-of-self : goal.invariant-of-self
-invariant-of-self g c =
+pub invariant_of-self : goal.invariant_of-self
+invariant_of-self g c =
     let ss = c.claim-i.new.self.slots in
     let i = c.claim-i.result in
     let there : i < length ss = search rules in
@@ -29,7 +29,7 @@ returns g c =
     let p = g.S.Surface.view c.claim-i.new.self.below in
     let wide = c.size-width.ensures.wide ∙ sym c.claim-i.ensures.quiet.sides.wide in
     let held : is_tile s.tile (tile_of p.wide x y) ≡ true =
-    sym (ap (λ o. is_tile o (tile_of p.wide x y)) (tile_read ss i s there read)) ∙ sym (ap (is_tile (tile_at ss i)) (c.tile-in-tile.ensures ∙ ap (λ w. tile_of w x y) wide)) ∙ c.claim-i.ensures.holds in
+    sym (ap (λ o. is_tile o (tile_of p.wide x y)) (tile_read ss i s there read)) ∙ sym (ap (is_tile (tile_at ss i)) (c.tile_in-tile.ensures ∙ ap (λ w. tile_of w x y) wide)) ∙ c.claim-i.ensures.holds in
     let inside : x < p.wide = omega (arith, c.requires.inside.column, c.claim-i.ensures.quiet.sides.wide) in
     given_then (λ u v. None) (run_inks x y c.args.n c.args.ink.value) (run_inks x y c.args.n c.args.ink.value) _ _ _ (λ u v o. over_nothing _) c.claim-i.ensures.quiet
     (put_given ss i s c.put.new.self p x y c.args.n c.args.ink.value there c.claim-i.new.self.apart read held c.put.ensures.tile c.put.ensures.inks c.requires.tile inside)

@@ -12,10 +12,10 @@ returns c =
     let b = book c.args.self.now in
     let n = c.args.number in
     let xs = c.args.self.now.shapes in
-    let ink = c.in-ok-ink.ensures in
+    let ink = c.in_ok-ink.ensures in
     let there : n < length xs = search rules in
     let none : None ≡ place_refusal b n c.args.shape c.args.ink =
-    sym (unless_true _ 6 _ (lt-ltb n 256 (omega arith)) ∙ unless_true _ 9 _ (and_from _ _ c.in-ok-check-figures.ensures (le-leb _ _ ink.0)) ∙ unless_true _ 10 _ c.in-ok-check-bounds.ensures) in
+    sym (unless_true _ 6 _ (lt-ltb n 256 (omega arith)) ∙ unless_true _ 9 _ (and_from _ _ c.in_ok-check_figures.ensures (le-leb _ _ ink.0)) ∙ unless_true _ 10 _ c.in_ok-check_bounds.ensures) in
     record {
       answer = none;
       after = accepted _ b _ _ none (same_book _ _ refl refl

@@ -10,8 +10,8 @@ loop-n-init c = sym (topmost_none _ _)
 
 pub loop-n-preserved : goal.loop-n-preserved
 loop-n-preserved c =
-    c.over-shape-ink.ensures
-    ∙ ap₂ (λ o b. unwrap_or (shape_ink (drawing c.args.self.now) c.args.x c.args.y (option_map item o) c.loop-n.n) b) c.entry-at.ensures c.loop-n.invariant
+    c.over_shape-ink.ensures
+    ∙ ap₂ (λ o b. unwrap_or (shape_ink (drawing c.args.self.now) c.args.x c.args.y (option_map item o) c.loop-n.n) b) c.entry_at.ensures c.loop-n.invariant
     ∙ sym (topmost_more _ _ _)
 
 pub returns : goal.returns

@@ -10,8 +10,8 @@ loop-s-init c = sym (topmost_none _ _)
 
 pub loop-s-preserved : goal.loop-s-preserved
 loop-s-preserved c =
-    c.over-span-ink.ensures
-    ∙ ap₂ (λ o b. unwrap_or (span_ink (option_map turn o) c.args.number c.args.self.now.frame) b) c.entry-at.ensures c.loop-s.invariant
+    c.over_span-ink.ensures
+    ∙ ap₂ (λ o b. unwrap_or (span_ink (option_map turn o) c.args.number c.args.self.now.frame) b) c.entry_at.ensures c.loop-s.invariant
     ∙ sym (topmost_more _ _ _)
 
 pub returns : goal.returns

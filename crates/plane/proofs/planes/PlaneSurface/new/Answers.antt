@@ -3,7 +3,7 @@ use Rattle.surface.specs.Bytes.{filled}
 use Rattle.plane.proofs.Inking.{filled_clear}
 use Rattle.plane.proofs.planes.PlaneSurface.new.Goals as goal
 
-pub invariant-of-result-2 : goal.invariant-of-result-2
-invariant-of-result-2 c =
-    let bytes = c.clear.ensures ∙ ap (λ (p : ℕ). filled (4 * p) 0 c.args.memory.now) c.plane-bytes.ensures in
+pub invariant_of-result-2 : goal.invariant_of-result-2
+invariant_of-result-2 c =
+    let bytes = c.clear.ensures ∙ ap (λ (p : ℕ). filled (4 * p) 0 c.args.memory.now) c.plane_bytes.ensures in
     (search rules, (search rules, (search rules, (filled_clear c.args.width c.args.height c.args.memory.now c.clear.new.bytes bytes, tt))))

@@ -8,7 +8,7 @@ loop-i-init c = loop_none c.args.from c.args.to c.args.bit c.args.bytes.now c.re
 
 pub loop-i-preserved : goal.loop-i-preserved
 loop-i-preserved c =
-    loop_more c.args.from c.args.to c.args.bit c.args.bytes.now c.loop-i.bytes c.loop-i.i _ _ _ (omega arith) (omega arith) c.loop-i.invariant c.saturating-sub-lo.ensures c.min-hi.ensures c.write-byte.ensures
+    loop_more c.args.from c.args.to c.args.bit c.args.bytes.now c.loop-i.bytes c.loop-i.i _ _ _ (omega arith) (omega arith) c.loop-i.invariant c.saturating_sub-lo.ensures c.min-hi.ensures c.write_byte.ensures
 
 pub returns : goal.returns
 returns c =

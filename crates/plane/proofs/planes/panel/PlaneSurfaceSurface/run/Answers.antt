@@ -7,7 +7,7 @@ use Rattle.plane.proofs.planes.panel.PlaneSurfaceSurface.run.Goals as goal
 pub write-requires : goal.write-requires
 write-requires c =
     let s = c.args.self.now in
-    let row : c.args.y * c.row-bytes.result ≡ c.args.y * row_bytes_lem s.width = ap (λ (b : ℕ). c.args.y * b) c.row-bytes.ensures in
+    let row : c.args.y * c.row_bytes.result ≡ c.args.y * row_bytes_lem s.width = ap (λ (b : ℕ). c.args.y * b) c.row_bytes.ensures in
     let small : plane_bytes_lem s.width s.height ≤ 256 * 32 = mul-le s.height (row_bytes_lem s.width) 256 32 s.low (omega (arith, s.narrow)) in
     record {
       end = omega (arith, row, run_ends s.width s.height c.args.x c.args.y c.args.n c.args.ink s.planes.memory.now c.if-not-accepts.ensures);
@@ -19,11 +19,11 @@ write-requires c =
 run_bytes : (y x n ink bits rows p r : ℕ) (xs ys : List ℕ) → p ≡ bits → r ≡ rows → ys ≡ planes_written 4 (8 * p) (8 * (y * r) + x) n ink xs → ys ≡ planes_written 4 (8 * bits) (8 * (y * rows) + x) n ink xs
 run_bytes y x n ink bits rows p r xs ys e f is = is ∙ rw (e, f)
 
-pub invariant-of-self : goal.invariant-of-self
-invariant-of-self c =
+pub invariant_of-self : goal.invariant_of-self
+invariant_of-self c =
     let s = c.args.self.now in
     let xs = s.planes.memory.now in
-    let bytes = run_bytes c.args.y c.args.x c.args.n c.args.ink _ _ _ _ xs _ c.plane-bytes-bits.ensures c.row-bytes.ensures c.write.ensures.bytes in
+    let bytes = run_bytes c.args.y c.args.x c.args.n c.args.ink _ _ _ _ xs _ c.plane_bytes-bits.ensures c.row_bytes.ensures c.write.ensures.bytes in
     (search rules, (search rules, (search rules, (spare_kept s.width s.height c.args.x c.args.y c.args.n c.args.ink xs _ s.room c.if-not-accepts.ensures bytes s.spare, tt))))
 
 pub returns : goal.returns
@@ -31,7 +31,7 @@ returns c =
     let s = c.args.self.now in
     let xs = s.planes.memory.now in
     let ok = c.if-not-accepts.ensures in
-    let bytes = run_bytes c.args.y c.args.x c.args.n c.args.ink _ _ _ _ xs _ c.plane-bytes-bits.ensures c.row-bytes.ensures c.write.ensures.bytes in
+    let bytes = run_bytes c.args.y c.args.x c.args.n c.args.ink _ _ _ _ xs _ c.plane_bytes-bits.ensures c.row_bytes.ensures c.write.ensures.bytes in
     record {
       means = (ok, inked s.width s.height c.args.x c.args.y c.args.n c.args.ink xs _ s.room ok bytes);
       bytes = bytes;
