@@ -13,10 +13,10 @@ import re
 import sys
 
 TOKEN = re.compile(r"[\w'-]+")
-DEFINED = re.compile(r"^(?:abbrev |unfoldable |pub |record |data )*([A-Za-z][\w'-]*)(?= *:|\s*[({][^=]*:| where)")
+DEFINED = re.compile(r"^ *(?:abbrev |unfoldable |pub |record |data )*([A-Za-z][\w'-]*)(?= +:|\s*[({][^=]*:| where)")
 FIELD = re.compile(r"^  (?:pub )?([A-Za-z][\w'-]*) :")
 MADE = re.compile(r"^(?:abbrev )?(?:pub )?([\w'-]+) : (?:\w+ )*(?:goal|given)\.")
-KEPT = {"long_L": "long_l", "Plane-box": "IsPlaneBox", "ink-at": "ink_at_lem", "plane-bytes": "plane_bytes_lem", "row-bytes": "row_bytes_lem"}
+KEPT = {"join-sizes": "join_sizes_lem", "long_L": "long_l", "Plane-box": "IsPlaneBox", "ink-at": "ink_at_lem", "plane-bytes": "plane_bytes_lem", "row-bytes": "row_bytes_lem"}
 
 
 def files():
@@ -47,10 +47,11 @@ def own_names(texts):
         for line in text.splitlines():
             if m := MADE.match(line):
                 made.add(m[1])
-            elif m := DEFINED.match(line):
-                names.add(m[1])
-            elif m := FIELD.match(line):
-                fields.add(m[1])
+            elif line.strip():
+                if m := DEFINED.match(line):
+                    names.add(m[1])
+                if m := FIELD.match(line):
+                    fields.add(m[1])
     return (names | fields) - made, fields
 
 

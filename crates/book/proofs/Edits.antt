@@ -43,15 +43,15 @@ pub touched_changed : (width height t n : ℕ) (d : Drawing) (old new : Item) �
     → touched width height d (with_shape d n (Some new)) t ≡ (not (same_shape old.shape new.shape && eqb old.ink new.ink) && (meets width height t old.shape || meets width height t new.shape))
 touched_changed width height t n d old new l e =
     placed_touched width height t n d (Some new) (Some old) l e
-    ∙ ap (λ v. not (same_shape old.shape new.shape && v) && (meets width height t old.shape || meets width height t new.shape)) (own-decides (cases_Bool (eqb old.ink new.ink)))
+    ∙ ap (λ v. not (same_shape old.shape new.shape && v) && (meets width height t old.shape || meets width height t new.shape)) (own_decides (cases_Bool (eqb old.ink new.ink)))
   where
-    and-true : (v : Bool) → (v && true) ≡ v
-    and-true true = refl
-    and-true false = refl
+    and_true : (v : Bool) → (v && true) ≡ v
+    and_true true = refl
+    and_true false = refl
 
-    own-decides : (eqb old.ink new.ink ≡ true) ⊎ (eqb old.ink new.ink ≡ false) → (eqb old.ink new.ink && eqb (ruling d n old.ink) (ruling d n new.ink)) ≡ eqb old.ink new.ink
-    own-decides = λ c. ⊎_elim
-        (λ h. ap (λ v. eqb old.ink new.ink && v) (eq-eqb (ruling d n old.ink) (ruling d n new.ink) (ap (ruling d n) (eqb-true old.ink new.ink h))) ∙ and-true (eqb old.ink new.ink))
+    own_decides : (eqb old.ink new.ink ≡ true) ⊎ (eqb old.ink new.ink ≡ false) → (eqb old.ink new.ink && eqb (ruling d n old.ink) (ruling d n new.ink)) ≡ eqb old.ink new.ink
+    own_decides = λ c. ⊎_elim
+        (λ h. ap (λ v. eqb old.ink new.ink && v) (eq-eqb (ruling d n old.ink) (ruling d n new.ink) (ap (ruling d n) (eqb-true old.ink new.ink h))) ∙ and_true (eqb old.ink new.ink))
         (λ h. ap (λ v. v && eqb (ruling d n old.ink) (ruling d n new.ink)) h ∙ sym h)
         c
 
@@ -59,11 +59,11 @@ staying_touched : (width height t n : ℕ) (d e : Drawing) (o : Option Item)
     → (not (same_look (option_map (look_of d n) o) (option_map (look_of e n) o)) && (meets_item width height t o || meets_item width height t o)) ≡ (reinked d e n o && meets_item width height t o)
 staying_touched width height t n d e None = refl
 staying_touched width height t n d e (Some item) =
-    ap₂ (λ v w. not v && w) (ap₂ (λ v w. v && (w && eqb (ruling d n item.ink) (ruling e n item.ink))) (equal_same_shape item.shape item.shape refl) (itself item.ink)) (or-twice (meets width height t item.shape))
+    ap₂ (λ v w. not v && w) (ap₂ (λ v w. v && (w && eqb (ruling d n item.ink) (ruling e n item.ink))) (equal_same_shape item.shape item.shape refl) (itself item.ink)) (or_twice (meets width height t item.shape))
   where
-    or-twice : (v : Bool) → (v || v) ≡ v
-    or-twice true = refl
-    or-twice false = refl
+    or_twice : (v : Bool) → (v || v) ≡ v
+    or_twice true = refl
+    or_twice false = refl
 
 -- another frame touches the tiles that a shape meets whose ruling ink differs
 pub touched_turned : (width height t frame : ℕ) (d : Drawing) → touched width height d (with_frame d frame) t ≡ some_below (reinked_touches width height t d (with_frame d frame)) 256
@@ -87,12 +87,12 @@ pub touched_span : (width height t s n : ℕ) (d : Drawing) (o : Option Turn) �
     → touched width height d (with_span d s o) t ≡ reinked_touches width height t d (with_span d s o) n
 touched_span width height t s n d o l was is =
     some_below_one (touched_by width height d (with_span d s o) t) 256 n l
-    (λ m h. same_untouched width height t m d (with_span d s o) (same-looks m (d.shapes m) h))
+    (λ m h. same_untouched width height t m d (with_span d s o) (same_looks m (d.shapes m) h))
     ∙ staying_touched width height t n d (with_span d s o) (d.shapes n)
   where
-    same-looks : (m : ℕ) (p : Option Item) → (m ≡ n → ⊥) → option_map (look_of d m) p ≡ option_map (look_of (with_span d s o) m) p
-    same-looks m None h = refl
-    same-looks m (Some item) h = ap (λ v. Some (record { shape = item.shape; own = item.ink; ruled = v })) (sym (ruling_stays d s m item.ink o (was m h) (is m h)))
+    same_looks : (m : ℕ) (p : Option Item) → (m ≡ n → ⊥) → option_map (look_of d m) p ≡ option_map (look_of (with_span d s o) m) p
+    same_looks m None h = refl
+    same_looks m (Some item) h = ap (λ v. Some (record { shape = item.shape; own = item.ink; ruled = v })) (sym (ruling_stays d s m item.ink o (was m h) (is m h)))
 
 -- a span that comes to an unused number, and one that leaves its number
 pub touched_spanned : (width height t s : ℕ) (d : Drawing) (turn : Turn) → turn.shape < 256 → d.spans s ≡ None

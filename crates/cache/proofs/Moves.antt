@@ -94,8 +94,8 @@ pub put_given : (ss : List Slot) (i : ℕ) (s r : Slot) (p : Picture) (x y n ink
     → Given (run_inks x y n ink) (cached ss p) (cached (set ss i r) p)
 put_given ss i s r p x y n ink l a e m kept inks fits inside = record {
   sides = record { wide = refl; high = refl };
-  taken = λ u v o. ap (λ w. unwrap_or w (p.taken u v)) (now-held u v o.column) ∙ valued (run u v) (held_for ss p.wide u v) (p.taken u v);
-  calm = λ u v o z w. ap (λ q. is_some q || p.waits u v) (now-held u v o.column ∙ unrun u v z) ∙ w;
+  taken = λ u v o. ap (λ w. unwrap_or w (p.taken u v)) (now_held u v o.column) ∙ valued (run u v) (held_for ss p.wide u v) (p.taken u v);
+  calm = λ u v o z w. ap (λ q. is_some q || p.waits u v) (now_held u v o.column ∙ unrun u v z) ∙ w;
 }
   where
     run : ℕ → ℕ → Bool
@@ -123,8 +123,8 @@ put_given ss i s r p x y n ink l a e m kept inks fits inside = record {
         (λ q. q)
         (cases_Bool (run u v))
 
-    now-held : (u v : ℕ) → u < p.wide → held_for (set ss i r) p.wide u v ≡ cond (run u v) (Some ink) (held_for ss p.wide u v)
-    now-held u v hu =
+    now_held : (u v : ℕ) → u < p.wide → held_for (set ss i r) p.wide u v ≡ cond (run u v) (Some ink) (held_for ss p.wide u v)
+    now_held u v hu =
         let t = tile_of p.wide u v in
         let at = tile_read ss i s l e in
         ⊎_elim

@@ -9,7 +9,7 @@ use Rattle.std.proofs.ByRecursion.{All-push}
 use Rattle.std.proofs.lemmas.Bool.{cond_both, ltb-true, ltb-false}
 use Rattle.quadratic.specs.Split.{split9, part}
 use Rattle.guttman.specs.Trees.{Grown, One, Two, add}
-use Rattle.guttman.specs.Growth.{flat, Sized-grown, All-grown, mapped}
+use Rattle.guttman.specs.Growth.{flat, SizedGrown, AllGrown, mapped}
 use Rattle.quadratic.proofs.Perms.{map_map}
 use Rattle.quadratic.proofs.Parts.{part_perm, part_count, part_all, part_map}
 use Rattle.quadratic.proofs.Fair.{split9_fair}
@@ -26,21 +26,21 @@ module _ {E : Type 0} (size : E → ℕ) (join : E → E → E) where
     as_many h few = (split9_fair size join (λ i. get_or (map extent es) i (extent y))).0 ∙ (let l = length-append es (y ∷ []) in omega arith)
 
     -- a node of at most eight gains the entry and keeps all others
-    pub add-perm : length es ≤ 8 → Permᴰ (flat (add size join extent es y)) (es ++ (y ∷ []))
+    pub add_perm : length es ≤ 8 → Permᴰ (flat (add size join extent es y)) (es ++ (y ∷ []))
     unfolding add
-    add-perm few =
+    add_perm few =
         cond_both (ltb (length es) 8) (One nine) (Two (part true letters nine) (part false letters nine)) (λ g. Permᴰ (flat g) nine)
         (λ e. Permᴰ.refl nine)
         (λ e. Permᴰ.symm (part_perm letters nine (as_many (ltb-false (length es) 8 e) few)))
 
-    pub add-sized : (low : ℕ) → low ≤ length es → length es ≤ 8 → Sized-grown low (add size join extent es y)
+    pub add_sized : (low : ℕ) → low ≤ length es → length es ≤ 8 → SizedGrown low (add size join extent es y)
     unfolding add
-    add-sized low h few =
+    add_sized low h few =
         let n = length-append es (y ∷ []) in
         let f = split9_fair size join (λ i. get_or (map extent es) i (extent y)) in
         let p = f.1 in
         let q = f.2 in
-        cond_both (ltb (length es) 8) (One nine) (Two (part true letters nine) (part false letters nine)) (Sized-grown low)
+        cond_both (ltb (length es) 8) (One nine) (Two (part true letters nine) (part false letters nine)) (SizedGrown low)
         (λ e. let l = ltb-true (length es) 8 e in (omega arith, omega arith))
         (λ e. let c = part_count letters nine (as_many (ltb-false (length es) 8 e) few) in
         let u = c.0 in
@@ -48,11 +48,11 @@ module _ {E : Type 0} (size : E → ℕ) (join : E → E → E) where
         let l = ltb-false (length es) 8 e in
         ((omega arith, omega arith), (omega arith, omega arith)))
 
-    pub add-all : (P : Z → Type 0) → All P es → P y → All-grown P (add size join extent es y)
+    pub add_all : (P : Z → Type 0) → All P es → P y → AllGrown P (add size join extent es y)
     unfolding add
-    add-all P all py =
+    add_all P all py =
         let a : All P nine = All-push P es y all py in
-        cond_both (ltb (length es) 8) (One nine) (Two (part true letters nine) (part false letters nine)) (All-grown P) (λ e. a) (λ e. (part_all P true letters nine a, part_all P false letters nine a))
+        cond_both (ltb (length es) 8) (One nine) (Two (part true letters nine) (part false letters nine)) (AllGrown P) (λ e. a) (λ e. (part_all P true letters nine a, part_all P false letters nine a))
 
   -- entries may be read another way, as long as their extents are the same
   pub add_mapped : {Z W : Type 0} (extent : W → E) (φ : Z → W) (es : List Z) (y : Z) → add size join extent (map φ es) (φ y) ≡ mapped φ (add size join (λ z. extent (φ z)) es y)

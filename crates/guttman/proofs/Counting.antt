@@ -5,25 +5,25 @@ use Rattle.std.specs.List.{flat_map, AllByRecursion as All}
 use Rattle.std.proofs.lemmas.List.Sums.{sum_by-cons}
 use Rattle.std.proofs.lemmas.Bool.{cases_lt}
 use Rattle.guttman.specs.Trees.{Item, Tree}
-use Rattle.guttman.specs.Shape.{least_root, slack_root, leaves, pairs, nodes-of, nodes, Filled, Shaped}
+use Rattle.guttman.specs.Shape.{least_root, slack_root, leaves, pairs, nodes_of, nodes, Filled, Shaped}
 
 power_from : (k h : ℕ) → k ≤ h → 3 ^ k ≤ 3 ^ h
 power_from k h l = pow-le-pow_right (omega arith) l
 
 module _ {E : Type 0} where
   -- twice the nodes under some entries, and one for each entry, is at most the pairs, if it is so for each
-  entries_pairs : (h : ℕ) → ((p : E × Item E h) → Filled h p → 2 * nodes-of h p + 1 ≤ length (leaves h p)) → (es : List (E × Item E h)) → All (Filled h) es
-      → 2 * sum_by (nodes-of h) es + length es ≤ length (flat_map (leaves h) es)
+  entries_pairs : (h : ℕ) → ((p : E × Item E h) → Filled h p → 2 * nodes_of h p + 1 ≤ length (leaves h p)) → (es : List (E × Item E h)) → All (Filled h) es
+      → 2 * sum_by (nodes_of h) es + length es ≤ length (flat_map (leaves h) es)
   entries_pairs h each [] w = omega arith
   entries_pairs h each (p ∷ es) w =
       let ih = entries_pairs h each es w.1 in
       let a = each p w.0 in
-      let s = sum_by-cons (nodes-of {E = E} h) p es in
+      let s = sum_by-cons (nodes_of {E = E} h) p es in
       let l = length-append (leaves h p) (flat_map (leaves h) es) in
       omega arith
 
   -- twice the nodes under an entry are fewer than its pairs
-  pub nodes_below_pairs : (h : ℕ) (p : E × Item E h) → Filled h p → 2 * nodes-of h p + 1 ≤ length (leaves h p)
+  pub nodes_below_pairs : (h : ℕ) (p : E × Item E h) → Filled h p → 2 * nodes_of h p + 1 ≤ length (leaves h p)
   nodes_below_pairs zero p w = omega arith
   nodes_below_pairs (suc h) p w =
       let s = entries_pairs h (nodes_below_pairs h) p.1 w.1 in
@@ -37,9 +37,9 @@ module _ {E : Type 0} where
   pub leaf_nodes : (t : Tree E 0) → nodes 0 t ≡ 1
   leaf_nodes t = ap (λ n. 1 + n) (none t)
     where
-      none : (t : Tree E 0) → sum_by (nodes-of 0) t ≡ 0
+      none : (t : Tree E 0) → sum_by (nodes_of 0) t ≡ 0
       none [] = refl
-      none (p ∷ t) = sum_by-cons (nodes-of {E = E} 0) p t ∙ omega (arith, none t)
+      none (p ∷ t) = sum_by-cons (nodes_of {E = E} 0) p t ∙ omega (arith, none t)
 
   -- at most half as many nodes as pairs
   pub nodes_half_pairs : (h : ℕ) (t : Tree E h) → Shaped (least_root h) h t → 2 ≤ length (pairs h t) → 2 * nodes h t ≤ length (pairs h t)

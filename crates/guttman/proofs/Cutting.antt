@@ -9,10 +9,10 @@ use Rattle.quadratic.proofs.Perms.{others, perm_at, perm_set, perm_last}
 use Rattle.guttman.specs.Trees.{Item, Tree, extents, bound}
 use Rattle.guttman.specs.Shape.{leaves, pairs, Exact, Tight}
 use Rattle.guttman.specs.Laws.{Joining}
-use Rattle.guttman.specs.Deletion.{Cut-out}
-use Rattle.guttman.specs.Cutting.{without, first_some, Remains, is_pair, cut_leaf, cut_at, cut-inner, cut}
+use Rattle.guttman.specs.Deletion.{CutOut}
+use Rattle.guttman.specs.Cutting.{without, first_some, Remains, is_pair, cut_leaf, cut_at, cut_inner, cut}
 use Rattle.guttman.proofs.Lists.{all_both, all_joined}
-use Rattle.guttman.proofs.Finding.{none-under}
+use Rattle.guttman.proofs.Finding.{none_under}
 use Rattle.guttman.proofs.Joins.{bound_joins}
 use Rattle.guttman.proofs.Leaving.{some_under, perm_without, leading_stops, leading_whole, first_some_at, first_some_none}
 
@@ -29,23 +29,23 @@ module _ {E : Type 0} (size : E → ℕ) (join : E → E → E) (covering : E �
 
   -- ---- it is cut out
 
-  leaf_cuts : (t : Tree E 0) (i : ℕ) → (i < length t → get_or t i (e, c) ≡ (e, c)) → (r : Remains E 0) → cut_leaf t i ≡ Some r → Cut-out covering e c 0 t r.0 r.1
+  leaf_cuts : (t : Tree E 0) (i : ℕ) → (i < length t → get_or t i (e, c) ≡ (e, c)) → (r : Remains E 0) → cut_leaf t i ≡ Some r → CutOut covering e c 0 t r.0 r.1
   leaf_cuts t i is r z =
-      elim (ltb i (length t)) as (λ b. ltb i (length t) ≡ b → cond b (Some (without t i, [])) None ≡ Some r → Cut-out covering e c 0 t r.0 r.1) [
+      elim (ltb i (length t)) as (λ b. ltb i (length t) ≡ b → cond b (Some (without t i, [])) None ≡ Some r → CutOut covering e c 0 t r.0 r.1) [
         | true ↦ λ l z.
             let q : (without t i, []) ≡ r = cc in
             let m = ltb-true i (length t) l in
-            subst (λ (r : Remains E 0). Cut-out covering e c 0 t r.0 r.1) q (Permᴰ.trans (perm_without t i (e, c) m) (Permᴰ.cons (is m) (Permᴰ.refl (without t i))), refl)
+            subst (λ (r : Remains E 0). CutOut covering e c 0 t r.0 r.1) q (Permᴰ.trans (perm_without t i (e, c) m) (Permᴰ.cons (is m) (Permᴰ.refl (without t i))), refl)
         | false ↦ λ l z. absurd (let n : ◌≡◌ {A = ℕ} 0 1 = cc in omega arith)
       ] refl z
 
-  at_cuts : (h : ℕ) (t : Tree E (suc h)) (i : ℕ) (r : Remains E h) → i < length t → Cut-out covering e c h (get_or t i (e, [])).1 r.0 r.1
-      → Cut-out covering e c (suc h) t (cut_at size join e h t i r).0 (cut_at size join e h t i r).1
+  at_cuts : (h : ℕ) (t : Tree E (suc h)) (i : ℕ) (r : Remains E h) → i < length t → CutOut covering e c h (get_or t i (e, [])).1 r.0 r.1
+      → CutOut covering e c (suc h) t (cut_at size join e h t i r).0 (cut_at size join e h t i r).1
   at_cuts h t i r l k =
       let node = r.0 in
       let x = bound size join e (extents node) in
       let n = length-map node (λ p. p.0) in
-      cond_both (ltb (length node) 3) (without t i, r.1 ++ ((h, node) ∷ [])) (set t i (x, node), r.1) (λ (s : Remains E (suc h)). Cut-out covering e c (suc h) t s.0 s.1)
+      cond_both (ltb (length node) 3) (without t i, r.1 ++ ((h, node) ∷ [])) (set t i (x, node), r.1) (λ (s : Remains E (suc h)). CutOut covering e c (suc h) t s.0 s.1)
       (λ b. let few = ltb-true (length node) 3 b in record {
         through = get_or t i (e, []);
         others = without t i;
@@ -72,17 +72,17 @@ module _ {E : Type 0} (size : E → ℕ) (join : E → E → E) (covering : E �
   below h p = cond (covering p.0 e) (cut size join covering e c h p.1) None
 
   inner_cuts : (h : ℕ) (t : Tree E (suc h)) (o : Option (ℕ × Remains E h)) → first_some (below h) t ≡ o
-      → ((p : Tree E h) (s : Remains E h) → cut size join covering e c h p ≡ Some s → Cut-out covering e c h p s.0 s.1)
-      → (r : Remains E (suc h)) → cut-inner size join e h t o ≡ Some r → Cut-out covering e c (suc h) t r.0 r.1
+      → ((p : Tree E h) (s : Remains E h) → cut size join covering e c h p ≡ Some s → CutOut covering e c h p s.0 s.1)
+      → (r : Remains E (suc h)) → cut_inner size join e h t o ≡ Some r → CutOut covering e c (suc h) t r.0 r.1
   inner_cuts h t None is ih r z = absurd (let n : ◌≡◌ {A = ℕ} 0 1 = cc in omega arith)
   inner_cuts h t (Some s) is ih r z =
       let q : cut_at size join e h t s.0 s.1 ≡ r = cc in
       let at_i = first_some_at (below h) t s is in
       let p = get_or t s.0 (e, []) in
-      subst (λ (r : Remains E (suc h)). Cut-out covering e c (suc h) t r.0 r.1) q
+      subst (λ (r : Remains E (suc h)). CutOut covering e c (suc h) t r.0 r.1) q
       (at_cuts h t s.0 s.1 at_i.0 (ih p.1 s.1 (some_under (covering p.0 e) (cut size join covering e c h p.1) s.1 (at_i.1 (e, [])))))
 
-  pub cut_cuts : (h : ℕ) (t : Tree E h) (r : Remains E h) → cut size join covering e c h t ≡ Some r → Cut-out covering e c h t r.0 r.1
+  pub cut_cuts : (h : ℕ) (t : Tree E h) (r : Remains E h) → cut size join covering e c h t ≡ Some r → CutOut covering e c h t r.0 r.1
   cut_cuts zero t r z =
       let p : E × ℕ → Bool = λ q. not (is_pair covering e c q) in
       let i = prefix_len p t in
@@ -106,7 +106,7 @@ module _ {E : Type 0} (size : E → ℕ) (join : E → E → E) (covering : E �
             t (leading_whole p t (ltb-false i (length t) l))
       ] refl z
 
-  inner_none : (h : ℕ) (t : Tree E (suc h)) (o : Option (ℕ × Remains E h)) → cut-inner size join e h t o ≡ None → o ≡ None
+  inner_none : (h : ℕ) (t : Tree E (suc h)) (o : Option (ℕ × Remains E h)) → cut_inner size join e h t o ≡ None → o ≡ None
   inner_none h t None z = refl
   inner_none h t (Some s) z = absurd (let n : ◌≡◌ {A = ℕ} 0 1 = cc in omega arith)
 
@@ -114,7 +114,7 @@ module _ {E : Type 0} (size : E → ℕ) (join : E → E → E) (covering : E �
   uncovered : (h : ℕ) (p : E × Item E h) → Exact covering h p → covering p.0 e ≡ false → All Other (leaves h p)
   uncovered h p x f =
       All-weaker (λ q. covering q.0 e ≡ false) Other (λ q k same. both_ways (covering q.0 e) k (subst (λ y. covering y.0 e ≡ true) (sym same) (laws.reflexive e)))
-      (leaves h p) (none-under covering (λ a. covering a e) (λ b a k l. laws.transitive b a e k l) h p x f)
+      (leaves h p) (none_under covering (λ a. covering a e) (λ b a k l. laws.transitive b a e k l) h p x f)
 
   pub cut_misses : (h : ℕ) (t : Tree E h) → Tight covering h t → cut size join covering e c h t ≡ None → All Other (pairs h t)
   cut_misses zero t x z = all_joined Other Other (leaves 0) (λ q k. (k, tt)) t (leaf_misses t z)

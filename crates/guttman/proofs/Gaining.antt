@@ -10,7 +10,7 @@ use Rattle.guttman.specs.Trees.{Tree, Grown, One, Two, extents, bound, choose, r
 use Rattle.guttman.specs.Shape.{leaves, pairs, Filled, Shaped}
 use Rattle.guttman.specs.Growth.{flat}
 use Rattle.guttman.proofs.Choosing.{choose_below}
-use Rattle.guttman.proofs.Adding.{add-perm}
+use Rattle.guttman.proofs.Adding.{add_perm}
 use Rattle.quadratic.proofs.Perms.{joined_append, perm_same, perm_front, perm_last, perm_joined, others, perm_at, perm_set}
 
 module _ {E : Type 0} (size : E → ℕ) (join : E → E → E) where
@@ -34,7 +34,7 @@ module _ {E : Type 0} (size : E → ℕ) (join : E → E → E) where
       let d : E × Tree E h = (bound size join e (extents s), s) in
       let y : E × Tree E h = (bound size join e (extents u), u) in
       let rest = flat_map f (others t i) in
-      Permᴰ.trans (perm_joined f (add-perm size join (λ p. p.0) (set t i d) y (let n = length-set t i d in omega arith)))
+      Permᴰ.trans (perm_joined f (add_perm size join (λ p. p.0) (set t i d) y (let n = length-set t i d in omega arith)))
       (Permᴰ.trans (perm_joined f (perm_last (set t i d) y))
       (Permᴰ.trans (Permᴰ.append_left (pairs h u) (perm_joined f (perm_set t i d l)))
       (Permᴰ.trans (perm_front (pairs h u) (pairs h s) rest)
@@ -45,7 +45,7 @@ module _ {E : Type 0} (size : E → ℕ) (join : E → E → E) where
   pub insert_pairs : (h low : ℕ) (t : Tree E h) (e : E) (c : ℕ) → (0 < h → 0 < low) → Shaped low h t → Permᴰ (pairs h (flat (insert size join h t e c))) ((e, c) ∷ pairs h t)
   insert_pairs zero low t e c full w =
       let f = leaves {E = E} 0 in
-      Permᴰ.trans (perm_joined f (add-perm size join (λ p. p.0) t (e, c) w.0.1)) (perm_joined f (perm_last t (e, c)))
+      Permᴰ.trans (perm_joined f (add_perm size join (λ p. p.0) t (e, c) w.0.1)) (perm_joined f (perm_last t (e, c)))
   insert_pairs (suc h) low t e c full w =
       let i = choose size join (extents t) e in
       let l : i < length t = chosen_below t e (let a = full (omega arith) in let b = w.0.0 in omega arith) in

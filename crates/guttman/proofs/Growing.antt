@@ -3,20 +3,20 @@ use Rattle.std.proofs.Common.{◌≡◌, ℕ, zero, suc, ◌+◌, ◌<◌, ◌�
 use Rattle.std.proofs.ByRecursion.{All-get_or}
 use Rattle.std.proofs.lemmas.List.Sums.{sum_by-cons, sum_by-append, sum_by_push, sum_by-set}
 use Rattle.guttman.specs.Trees.{Tree, Grown, One, Two, extents, bound, choose, add, renewed, insert, rooted, inserted}
-use Rattle.guttman.specs.Shape.{nodes-of, nodes, Filled, Shaped}
+use Rattle.guttman.specs.Shape.{nodes_of, nodes, Filled, Shaped}
 use Rattle.guttman.specs.Growth.{flat, nodes_grown}
 use Rattle.guttman.proofs.Lists.{perm_sum_by}
-use Rattle.guttman.proofs.Adding.{add-perm}
+use Rattle.guttman.proofs.Adding.{add_perm}
 use Rattle.guttman.proofs.Gaining.{chosen_below}
 
 -- the nodes under its entries, and itself or the two
-grown_between : {E : Type 0} (h : ℕ) (g : Grown (Tree E h)) → (sum_by (nodes-of h) (flat g) + 1 ≤ nodes_grown h g) × (nodes_grown h g ≤ sum_by (nodes-of h) (flat g) + 2)
+grown_between : {E : Type 0} (h : ℕ) (g : Grown (Tree E h)) → (sum_by (nodes_of h) (flat g) + 1 ≤ nodes_grown h g) × (nodes_grown h g ≤ sum_by (nodes_of h) (flat g) + 2)
 grown_between h (One t) = (omega arith, omega arith)
-grown_between {E} h (Two s t) = let a = sum_by-append (nodes-of {E = E} h) s t in (omega arith, omega arith)
+grown_between {E} h (Two s t) = let a = sum_by-append (nodes_of {E = E} h) s t in (omega arith, omega arith)
 
 module _ {E : Type 0} (size : E → ℕ) (join : E → E → E) where
   add_sum : {Z : Type 0} (f : Z → ℕ) (extent : Z → E) (es : List Z) (y : Z) → length es ≤ 8 → sum_by f (flat (add size join extent es y)) ≡ sum_by f es + f y
-  add_sum f extent es y few = perm_sum_by f (add-perm size join extent es y few) ∙ sum_by_push f es y
+  add_sum f extent es y few = perm_sum_by f (add_perm size join extent es y few) ∙ sum_by_push f es y
 
   -- at most one more in the node itself
   pub renewed_nodes : (h : ℕ) (t : Tree E (suc h)) (i : ℕ) (e : E) (g : Grown (Tree E h)) → i < length t → length t ≤ 8
@@ -24,12 +24,12 @@ module _ {E : Type 0} (size : E → ℕ) (join : E → E → E) where
       × (nodes_grown (suc h) (renewed size join t i e g) + nodes h (get_or t i (e, [])).1 ≤ (nodes (suc h) t + nodes_grown h g) + 1)
   renewed_nodes h t i e (One s) l few =
       let d : E × Tree E h = (bound size join e (extents s), s) in
-      let a = sum_by-set (nodes-of {E = E} (suc h)) t i d (e, []) l in
+      let a = sum_by-set (nodes_of {E = E} (suc h)) t i d (e, []) l in
       (omega arith, omega arith)
   renewed_nodes h t i e (Two s u) l few =
       let d : E × Tree E h = (bound size join e (extents s), s) in
       let y : E × Tree E h = (bound size join e (extents u), u) in
-      let f = nodes-of {E = E} (suc h) in
+      let f = nodes_of {E = E} (suc h) in
       let a = sum_by-set f t i d (e, []) l in
       let n = length-set t i d in
       let b = add_sum f (λ p. p.0) (set t i d) y (omega arith) in
@@ -43,7 +43,7 @@ module _ {E : Type 0} (size : E → ℕ) (join : E → E → E) where
       → (nodes h t ≤ nodes_grown h (insert size join h t e c)) × (nodes_grown h (insert size join h t e c) ≤ nodes h t + (h + 1))
   insert_nodes zero low t e c full w =
       let g = add size join (λ p. p.0) t (e, c) in
-      let b = add_sum (nodes-of {E = E} 0) (λ p. p.0) t (e, c) w.0.1 in
+      let b = add_sum (nodes_of {E = E} 0) (λ p. p.0) t (e, c) w.0.1 in
       let c = grown_between 0 g in
       let c0 = c.0 in
       let c1 = c.1 in
@@ -67,7 +67,7 @@ module _ {E : Type 0} (size : E → ℕ) (join : E → E → E) where
   rooted_nodes h e (Two s t) =
       let x : E × Tree E h = (bound size join e (extents s), s) in
       let y : E × Tree E h = (bound size join e (extents t), t) in
-      let f = nodes-of {E = E} (suc h) in
+      let f = nodes_of {E = E} (suc h) in
       let a = sum_by-cons f x (y ∷ []) in
       let b = sum_by-cons f y [] in
       (omega arith, omega arith)

@@ -8,7 +8,7 @@ use Rattle.std.proofs.lemmas.Bool.{ltb-true, cond_both}
 use Rattle.guttman.specs.Trees.{Tree, extents, bound}
 use Rattle.guttman.specs.Shape.{Filled}
 use Rattle.guttman.specs.Deletion.{Loose}
-use Rattle.guttman.specs.Cutting.{without, first_some, Remains, is_pair, cut_leaf, cut_at, cut-inner, cut, Climbing}
+use Rattle.guttman.specs.Cutting.{without, first_some, Remains, is_pair, cut_leaf, cut_at, cut_inner, cut, Climbing}
 use Rattle.guttman.proofs.Leaving.{some_under, first_some_at}
 
 counting_more : (n : ℕ) → range_with_len 0 (n + 1) ≡ range_with_len 0 n ++ (n ∷ [])
@@ -42,7 +42,7 @@ module _ {E : Type 0} (size : E → ℕ) (join : E → E → E) (covering : E �
 
   inner_climbs : (h : ℕ) (t : Tree E (suc h)) (o : Option (ℕ × Remains E h)) → first_some (λ p. cond (covering p.0 e) (cut size join covering e c h p.1) None) t ≡ o
       → ((p : Tree E h) (s : Remains E h) → All (Filled h) p → cut size join covering e c h p ≡ Some s → Climbing h p s)
-      → (r : Remains E (suc h)) → All (Filled (suc h)) t → cut-inner size join e h t o ≡ Some r → Climbing (suc h) t r
+      → (r : Remains E (suc h)) → All (Filled (suc h)) t → cut_inner size join e h t o ≡ Some r → Climbing (suc h) t r
   inner_climbs h t None is ih r w z = absurd (let n : ◌≡◌ {A = ℕ} 0 1 = cc in omega arith)
   inner_climbs h t (Some s) is ih r w z =
       let q : cut_at size join e h t s.0 s.1 ≡ r = cc in

@@ -5,9 +5,9 @@ use Rattle.guttman.specs.Shape.{least_root, pairs, nodes, Shaped}
 use Rattle.guttman.specs.Laws.{Joining, InsertionKeeps, ChoiceSoonest, FindingMissesNone, HalfAsManyNodes, FiveDeep}
 use Rattle.guttman.proofs.Choosing.{choose_soonest}
 use Rattle.guttman.proofs.Gaining.{inserted_pairs}
-use Rattle.guttman.proofs.Shaping.{low_some, inserted-shaped}
+use Rattle.guttman.proofs.Shaping.{low_some, inserted_shaped}
 use Rattle.guttman.proofs.Tightening.{inserted_tight}
-use Rattle.guttman.proofs.Finding.{reached-passing}
+use Rattle.guttman.proofs.Finding.{reached_passing}
 use Rattle.guttman.proofs.Counting.{nodes_half_pairs, nodes_root_pairs, leaf_nodes, five_deep}
 
 pub least_root_some : (h : ℕ) → 0 < h → 0 < least_root h
@@ -17,7 +17,7 @@ module _ {E : Type 0} (size : E → ℕ) (join : E → E → E) (covering : E �
   pub insertion_keeps : InsertionKeeps size join covering
   insertion_keeps h t e c w = (
     record {
-      shape = inserted-shaped size join least_root (λ h. omega arith) (λ h. omega arith) h t e c w.shape;
+      shape = inserted_shaped size join least_root (λ h. omega arith) (λ h. omega arith) h t e c w.shape;
       tight = inserted_tight size join covering laws h (least_root h) t e c (least_root_some h) w.shape w.tight;
     },
     inserted_pairs size join h (least_root h) t e c (least_root_some h) w.shape,
@@ -27,7 +27,7 @@ pub choice_soonest : {E : Type 0} (size : E → ℕ) (join : E → E → E) → 
 choice_soonest size join xs e some = choose_soonest size join xs e some
 
 pub finding_misses_none : {E : Type 0} (covering : E → E → Bool) → FindingMissesNone covering
-finding_misses_none covering test upward h t w = reached-passing covering test upward h t w.tight
+finding_misses_none covering test upward h t w = reached_passing covering test upward h t w.tight
 
 pub half_as_many_nodes : (E : Type 0) → HalfAsManyNodes E
 half_as_many_nodes E h t w = (nodes_half_pairs h t w, one h t w)

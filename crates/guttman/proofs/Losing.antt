@@ -8,13 +8,13 @@ use Rattle.std.proofs.lemmas.List.Sums.{sum_by-cons}
 use Rattle.std.proofs.lemmas.Bool.{cases_lt}
 use Rattle.quadratic.proofs.Perms.{perm_same, perm_joined}
 use Rattle.guttman.specs.Trees.{Tree}
-use Rattle.guttman.specs.Shape.{leaves, pairs, nodes-of, nodes}
-use Rattle.guttman.specs.Deletion.{Loose, loose_pairs, loose_nodes, Passed-up, Cut-out}
+use Rattle.guttman.specs.Shape.{leaves, pairs, nodes_of, nodes}
+use Rattle.guttman.specs.Deletion.{Loose, loose_pairs, loose_nodes, PassedUp, CutOut}
 use Rattle.guttman.proofs.Lists.{perm_swap, perm_append, perm_sum_by}
 
 module _ {E : Type 0} (covering : E → E → Bool) (e : E) (c : ℕ) where
   -- of the pairs before, those under the node come first
-  passed_pairs : (h : ℕ) (t s : Tree E (suc h)) (loose : List (Loose E)) (k : Passed-up covering h (Cut-out covering e c h) t s loose)
+  passed_pairs : (h : ℕ) (t s : Tree E (suc h)) (loose : List (Loose E)) (k : PassedUp covering h (CutOut covering e c h) t s loose)
       → Permᴰ (pairs h k.through.1) ((e, c) ∷ (pairs h k.node ++ loose_pairs k.below))
       → Permᴰ (pairs (suc h) t) ((e, c) ∷ (pairs (suc h) s ++ loose_pairs loose))
   passed_pairs h t s loose k ih =
@@ -36,16 +36,16 @@ module _ {E : Type 0} (covering : E → E → Bool) (e : E) (c : ℕ) where
       ])))
 
   -- what is left, what was cut off, and the pair are the pairs before
-  pub cut_pairs : (h : ℕ) (t s : Tree E h) (loose : List (Loose E)) → Cut-out covering e c h t s loose → Permᴰ (pairs h t) ((e, c) ∷ (pairs h s ++ loose_pairs loose))
+  pub cut_pairs : (h : ℕ) (t s : Tree E h) (loose : List (Loose E)) → CutOut covering e c h t s loose → Permᴰ (pairs h t) ((e, c) ∷ (pairs h s ++ loose_pairs loose))
   cut_pairs zero t s loose k =
       Permᴰ.trans (perm_joined (leaves {E = E} 0) k.0)
       (perm_same (ap (λ z. (e, c) ∷ z) (sym (append-nil (pairs 0 s)) ∙ ap (λ z. pairs 0 s ++ loose_pairs z) (sym k.1))))
   cut_pairs (suc h) t s loose k = passed_pairs h t s loose k (cut_pairs h k.through.1 k.node k.below k.cut)
 
-  passed_nodes : (h : ℕ) (t s : Tree E (suc h)) (loose : List (Loose E)) (k : Passed-up covering h (Cut-out covering e c h) t s loose)
+  passed_nodes : (h : ℕ) (t s : Tree E (suc h)) (loose : List (Loose E)) (k : PassedUp covering h (CutOut covering e c h) t s loose)
       → nodes h k.node + loose_nodes k.below ≡ nodes h k.through.1 → nodes (suc h) s + loose_nodes loose ≡ nodes (suc h) t
   passed_nodes h t s loose k ih =
-      let n = nodes-of {E = E} (suc h) in
+      let n = nodes_of {E = E} (suc h) in
       let m : Loose E → ℕ = λ o. nodes o.0 o.1 in
       let b = perm_sum_by n k.before in
       let a = sum_by-cons n k.through k.others in
@@ -65,9 +65,9 @@ module _ {E : Type 0} (covering : E → E → Bool) (e : E) (c : ℕ) where
       ]
 
   -- each node is still there or was cut off
-  pub cut_nodes : (h : ℕ) (t s : Tree E h) (loose : List (Loose E)) → Cut-out covering e c h t s loose → nodes h s + loose_nodes loose ≡ nodes h t
+  pub cut_nodes : (h : ℕ) (t s : Tree E h) (loose : List (Loose E)) → CutOut covering e c h t s loose → nodes h s + loose_nodes loose ≡ nodes h t
   cut_nodes zero t s loose k =
-      let n = nodes-of {E = E} 0 in
+      let n = nodes_of {E = E} 0 in
       let m : Loose E → ℕ = λ o. nodes o.0 o.1 in
       let b = perm_sum_by n k.0 in
       let a = sum_by-cons n (e, c) s in

@@ -6,11 +6,11 @@ use Rattle.std.proofs.lemmas.Bool.{cases_lt}
 use Rattle.quadratic.proofs.Perms.{perm_all}
 use Rattle.guttman.specs.Trees.{Tree}
 use Rattle.guttman.specs.Shape.{least_root, slack_root, Filled, Shaped, Exact, Tight}
-use Rattle.guttman.specs.Deletion.{Loose, Short, Passed-up, Cut-out}
+use Rattle.guttman.specs.Deletion.{Loose, Short, PassedUp, CutOut}
 use Rattle.guttman.proofs.Lists.{perm_length}
 
 module _ {E : Type 0} (covering : E → E → Bool) (e : E) (c : ℕ) where
-  passed_shaped : (h low : ℕ) (t s : Tree E (suc h)) (loose : List (Loose E)) (k : Passed-up covering h (Cut-out covering e c h) t s loose) → Shaped low (suc h) t
+  passed_shaped : (h low : ℕ) (t s : Tree E (suc h)) (loose : List (Loose E)) (k : PassedUp covering h (CutOut covering e c h) t s loose) → Shaped low (suc h) t
       → (Filled (suc h) k.through → Shaped 2 h k.node × All Short k.below) → Shaped (low - 1) (suc h) s × All Short loose
   passed_shaped h low t s loose k w ih =
       let F = Filled {E = E} (suc h) in
@@ -33,7 +33,7 @@ module _ {E : Type 0} (covering : E → E → Bool) (e : E) (c : ℕ) where
       ]
 
   -- a node loses at most one entry, and what was cut off was left with two
-  pub cut_shaped : (h low : ℕ) (t s : Tree E h) (loose : List (Loose E)) → Cut-out covering e c h t s loose → Shaped low h t → Shaped (low - 1) h s × All Short loose
+  pub cut_shaped : (h low : ℕ) (t s : Tree E h) (loose : List (Loose E)) → CutOut covering e c h t s loose → Shaped low h t → Shaped (low - 1) h s × All Short loose
   cut_shaped zero low t s loose k w =
       let n = perm_length k.0 in
       let a = w.0.0 in
@@ -41,11 +41,11 @@ module _ {E : Type 0} (covering : E → E → Bool) (e : E) (c : ℕ) where
       (((omega arith, omega arith), (perm_all (Filled {E = E} 0) k.0 w.1).1), subst (All Short) (sym k.1) tt)
   cut_shaped (suc h) low t s loose k w = passed_shaped h low t s loose k w (cut_shaped h 3 k.through.1 k.node k.below k.cut)
 
-  pub cut_slack : (h : ℕ) (t s : Tree E h) (loose : List (Loose E)) → Cut-out covering e c h t s loose → Shaped (least_root h) h t → Shaped (slack_root h) h s × All Short loose
+  pub cut_slack : (h : ℕ) (t s : Tree E h) (loose : List (Loose E)) → CutOut covering e c h t s loose → Shaped (least_root h) h t → Shaped (slack_root h) h s × All Short loose
   cut_slack zero t s loose k w = cut_shaped 0 0 t s loose k w
   cut_slack (suc h) t s loose k w = cut_shaped (suc h) 2 t s loose k w
 
-  pub cut_tight : (h : ℕ) (t s : Tree E h) (loose : List (Loose E)) → Cut-out covering e c h t s loose → Tight covering h t → Tight covering h s
+  pub cut_tight : (h : ℕ) (t s : Tree E h) (loose : List (Loose E)) → CutOut covering e c h t s loose → Tight covering h t → Tight covering h s
   cut_tight zero t s loose k w = (perm_all (Exact covering 0) k.0 w).1
   cut_tight (suc h) t s loose k w =
       let X = Exact covering (suc h) in

@@ -6,11 +6,11 @@ use Rattle.std.proofs.lemmas.List.{append-nil}
 use Rattle.std.proofs.lemmas.List.Sums.{sum_by-cons}
 use Rattle.quadratic.proofs.Perms.{perm_same}
 use Rattle.guttman.specs.Trees.{Tree, inserted}
-use Rattle.guttman.specs.Shape.{least_root, slack_root, pairs, nodes-of, nodes, Filled, Shaped, Tight}
+use Rattle.guttman.specs.Shape.{least_root, slack_root, pairs, nodes_of, nodes, Filled, Shaped, Tight}
 use Rattle.guttman.specs.Laws.{Joining}
-use Rattle.guttman.specs.Deletion.{lowered, inserted-all}
+use Rattle.guttman.specs.Deletion.{lowered, inserted_all}
 use Rattle.guttman.proofs.Gaining.{inserted_pairs}
-use Rattle.guttman.proofs.Shaping.{low_some, inserted-shaped}
+use Rattle.guttman.proofs.Shaping.{low_some, inserted_shaped}
 use Rattle.guttman.proofs.Tightening.{inserted_tight}
 
 pub slack_root_some : (h : ℕ) → 0 < h → 0 < slack_root h
@@ -57,7 +57,7 @@ module _ {E : Type 0} where
   pub lowered_nodes : (h : ℕ) (t : Tree E h) → nodes (lowered h t).0 (lowered h t).1 ≤ nodes h t
   lowered_nodes zero t = omega arith
   lowered_nodes (suc h) [] = omega arith
-  lowered_nodes (suc h) (p ∷ []) = let ih = lowered_nodes h p.1 in let s = sum_by-cons (nodes-of {E = E} (suc h)) p [] in omega arith
+  lowered_nodes (suc h) (p ∷ []) = let ih = lowered_nodes h p.1 in let s = sum_by-cons (nodes_of {E = E} (suc h)) p [] in omega arith
   lowered_nodes (suc h) (p ∷ q ∷ t) = omega arith
 
 -- ---- pairs are inserted one by one
@@ -65,16 +65,16 @@ module _ {E : Type 0} where
 module _ {E : Type 0} (size : E → ℕ) (join : E → E → E) where
   -- a root that may have one entry keeps as many
   pub inserted_slack : (h : ℕ) (t : Tree E h) (e : E) (c : ℕ) → Shaped (slack_root h) h t → Shaped (slack_root (inserted size join h t e c).0) (inserted size join h t e c).0 (inserted size join h t e c).1
-  inserted_slack h t e c w = inserted-shaped size join slack_root (λ h. omega arith) (λ h. omega arith) h t e c w
+  inserted_slack h t e c w = inserted_shaped size join slack_root (λ h. omega arith) (λ h. omega arith) h t e c w
 
   pub inserted_all_shaped : (ps : List (E × ℕ)) (u : (k : ℕ) × Tree E k) → Shaped (slack_root u.0) u.0 u.1
-      → Shaped (slack_root (inserted-all size join u ps).0) (inserted-all size join u ps).0 (inserted-all size join u ps).1
+      → Shaped (slack_root (inserted_all size join u ps).0) (inserted_all size join u ps).0 (inserted_all size join u ps).1
   inserted_all_shaped [] u w = w
   inserted_all_shaped (p ∷ ps) u w =
       inserted_all_shaped ps (inserted size join u.0 u.1 p.0 p.1) (inserted_slack u.0 u.1 p.0 p.1 w)
 
   pub inserted_all_pairs : (ps : List (E × ℕ)) (u : (k : ℕ) × Tree E k) → Shaped (slack_root u.0) u.0 u.1
-      → Permᴰ (pairs (inserted-all size join u ps).0 (inserted-all size join u ps).1) (pairs u.0 u.1 ++ ps)
+      → Permᴰ (pairs (inserted_all size join u ps).0 (inserted_all size join u ps).1) (pairs u.0 u.1 ++ ps)
   inserted_all_pairs [] u w = perm_same (sym (append-nil (pairs u.0 u.1)))
   inserted_all_pairs (p ∷ ps) u w =
       let v = inserted size join u.0 u.1 p.0 p.1 in
@@ -83,9 +83,9 @@ module _ {E : Type 0} (size : E → ℕ) (join : E → E → E) where
       (Permᴰ.symm (Permᴰ.middle p (pairs u.0 u.1) ps)))
 
   module _ (covering : E → E → Bool) (laws : Joining join covering) where
-    pub inserted-all-tight : (ps : List (E × ℕ)) (u : (k : ℕ) × Tree E k) → Shaped (slack_root u.0) u.0 u.1 → Tight covering u.0 u.1
-        → Tight covering (inserted-all size join u ps).0 (inserted-all size join u ps).1
-    inserted-all-tight [] u w k = k
-    inserted-all-tight (p ∷ ps) u w k =
-        inserted-all-tight ps (inserted size join u.0 u.1 p.0 p.1) (inserted_slack u.0 u.1 p.0 p.1 w)
+    pub inserted_all_tight : (ps : List (E × ℕ)) (u : (k : ℕ) × Tree E k) → Shaped (slack_root u.0) u.0 u.1 → Tight covering u.0 u.1
+        → Tight covering (inserted_all size join u ps).0 (inserted_all size join u ps).1
+    inserted_all_tight [] u w k = k
+    inserted_all_tight (p ∷ ps) u w k =
+        inserted_all_tight ps (inserted size join u.0 u.1 p.0 p.1) (inserted_slack u.0 u.1 p.0 p.1 w)
         (inserted_tight size join covering laws u.0 (slack_root u.0) u.1 p.0 p.1 (slack_root_some u.0) w k)

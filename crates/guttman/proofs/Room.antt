@@ -7,7 +7,7 @@ use Rattle.std.proofs.ByRecursion.{All-weaker}
 use Rattle.std.proofs.lemmas.List.Sums.{sum_by-cons}
 use Rattle.std.proofs.lemmas.Bool.{cases_lt}
 use Rattle.guttman.specs.Trees.{Item, Tree}
-use Rattle.guttman.specs.Shape.{least_root, slack_root, pairs, nodes-of, nodes, Filled, Shaped}
+use Rattle.guttman.specs.Shape.{least_root, slack_root, pairs, nodes_of, nodes, Filled, Shaped}
 use Rattle.guttman.specs.Deletion.{Loose, loose_nodes}
 use Rattle.guttman.proofs.Counting.{nodes_root_pairs, nodes_slack_pairs, leaf_nodes, five_deep, six_deep}
 
@@ -32,21 +32,21 @@ sum_below f k m (x ∷ xs) w =
 
 module _ {E : Type 0} where
   -- under an entry there are at least as many nodes as if each had three entries
-  pub nodes_fewest : (h : ℕ) (p : E × Item E h) → Filled h p → 3 ^ h ≤ 2 * nodes-of h p + 1
+  pub nodes_fewest : (h : ℕ) (p : E × Item E h) → Filled h p → 3 ^ h ≤ 2 * nodes_of h p + 1
   nodes_fewest zero p w = omega arith
   nodes_fewest (suc h) p w =
       let m = 3 ^ h - 1 in
-      let s = sum_above (nodes-of h) 2 m p.1 (All-weaker (Filled h) (λ q. m ≤ 2 * nodes-of h q) (λ q f. let n = nodes_fewest h q f in omega arith) p.1 w.1) in
+      let s = sum_above (nodes_of h) 2 m p.1 (All-weaker (Filled h) (λ q. m ≤ 2 * nodes_of h q) (λ q f. let n = nodes_fewest h q f in omega arith) p.1 w.1) in
       let t : 3 * m ≤ length p.1 * m = mul-le-mul_right m w.0.0 in
       let e = pow-succ' 3 h in
       omega arith
 
   -- and at most as many as if each had eight
-  pub nodes_most : (h : ℕ) (p : E × Item E h) → Filled h p → 7 * nodes-of h p + 1 ≤ 8 ^ h
+  pub nodes_most : (h : ℕ) (p : E × Item E h) → Filled h p → 7 * nodes_of h p + 1 ≤ 8 ^ h
   nodes_most zero p w = omega arith
   nodes_most (suc h) p w =
       let m = 8 ^ h - 1 in
-      let s = sum_below (nodes-of h) 7 m p.1 (All-weaker (Filled h) (λ q. 7 * nodes-of h q ≤ m) (λ q f. let n = nodes_most h q f in omega arith) p.1 w.1) in
+      let s = sum_below (nodes_of h) 7 m p.1 (All-weaker (Filled h) (λ q. 7 * nodes_of h q ≤ m) (λ q f. let n = nodes_most h q f in omega arith) p.1 w.1) in
       let t : length p.1 * m ≤ 8 * m = mul-le-mul_right m w.0.1 in
       let e = pow-succ' 8 h in
       let z : 0 ≤ h = omega arith in
@@ -60,14 +60,14 @@ module _ {E : Type 0} where
   fourteen_nodes (suc h) (p ∷ t) deep w =
       let n = nodes_fewest (suc h) p w.1.0 in
       let e : 3 ^ 3 ≤ 3 ^ suc h = pow-le-pow_right (omega arith) deep in
-      let s = sum_by-cons (nodes-of {E = E} (suc h)) p t in
+      let s = sum_by-cons (nodes_of {E = E} (suc h)) p t in
       omega arith
 
   -- and above at most two at most 73
   pub seventy_three_nodes : (h : ℕ) (t : Tree E h) → h ≤ 2 → length t ≤ 8 → All (Filled h) t → nodes h t ≤ 73
   seventy_three_nodes h t low few w =
       let e : 8 ^ h ≤ 8 ^ 2 = pow-le-pow_right (omega arith) low in
-      let s = sum_below (nodes-of h) 1 9 t (All-weaker (Filled h) (λ q. 1 * nodes-of h q ≤ 9) (λ q f. let n = nodes_most h q f in omega arith) t w) in
+      let s = sum_below (nodes_of h) 1 9 t (All-weaker (Filled h) (λ q. 1 * nodes_of h q ≤ 9) (λ q f. let n = nodes_most h q f in omega arith) t w) in
       omega arith
 
   -- an insertion into a tree of fewer than 256 pairs

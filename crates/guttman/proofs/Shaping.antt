@@ -4,7 +4,7 @@ use Rattle.std.proofs.ByRecursion.{All-get_or, All-set}
 use Rattle.guttman.specs.Trees.{Tree, Grown, One, Two, extents, bound, choose, renewed, insert, rooted, inserted}
 use Rattle.guttman.specs.Shape.{Filled, Shaped}
 use Rattle.guttman.specs.Growth.{ShapedGrown}
-use Rattle.guttman.proofs.Adding.{add-sized, add-all}
+use Rattle.guttman.proofs.Adding.{add_sized, add_all}
 use Rattle.guttman.proofs.Gaining.{chosen_below}
 
 pub low_some : (low : ℕ → ℕ) → ((h : ℕ) → 0 < low (suc h)) → (h : ℕ) → 0 < h → 0 < low h
@@ -25,13 +25,13 @@ module _ {E : Type 0} (size : E → ℕ) (join : E → E → E) where
       let n = length-set t i d in
       let a = w.0.0 in
       let b = w.0.1 in (
-        add-sized size join (λ p. p.0) (set t i d) y low (omega arith) (omega arith),
-        add-all size join (λ p. p.0) (set t i d) y (Filled (suc h)) (All-set (Filled (suc h)) t i d (k.0.0, k.1.0) w.1) (k.0.1, k.1.1),
+        add_sized size join (λ p. p.0) (set t i d) y low (omega arith) (omega arith),
+        add_all size join (λ p. p.0) (set t i d) y (Filled (suc h)) (All-set (Filled (suc h)) t i d (k.0.0, k.1.0) w.1) (k.0.1, k.1.1),
       )
 
   pub insert_shaped : (h low : ℕ) (t : Tree E h) (e : E) (c : ℕ) → (0 < h → 0 < low) → Shaped low h t → ShapedGrown low h (insert size join h t e c)
   insert_shaped zero low t e c full w =
-      (add-sized size join (λ p. p.0) t (e, c) low w.0.0 w.0.1, add-all size join (λ p. p.0) t (e, c) (Filled 0) w.1 tt)
+      (add_sized size join (λ p. p.0) t (e, c) low w.0.0 w.0.1, add_all size join (λ p. p.0) t (e, c) (Filled 0) w.1 tt)
   insert_shaped (suc h) low t e c full w =
       let i = choose size join (extents t) e in
       let l : i < length t = chosen_below size join t e (let a = full (omega arith) in let b = w.0.0 in omega arith) in
@@ -40,9 +40,9 @@ module _ {E : Type 0} (size : E → ℕ) (join : E → E → E) where
 
   -- a new root has two entries, which suffices where a root above other nodes may have so few
   module _ (low : ℕ → ℕ) (some : (h : ℕ) → 0 < low (suc h)) (two : (h : ℕ) → low (suc h) ≤ 2) where
-    pub rooted-shaped : (h : ℕ) (e : E) (g : Grown (Tree E h)) → ShapedGrown (low h) h g → Shaped (low (rooted size join h e g).0) (rooted size join h e g).0 (rooted size join h e g).1
-    rooted-shaped h e (One t) w = w
-    rooted-shaped h e (Two s t) w = ((two h, omega arith), ((w.0.0, w.1.0), ((w.0.1, w.1.1), tt)))
+    pub rooted_shaped : (h : ℕ) (e : E) (g : Grown (Tree E h)) → ShapedGrown (low h) h g → Shaped (low (rooted size join h e g).0) (rooted size join h e g).0 (rooted size join h e g).1
+    rooted_shaped h e (One t) w = w
+    rooted_shaped h e (Two s t) w = ((two h, omega arith), ((w.0.0, w.1.0), ((w.0.1, w.1.1), tt)))
 
-    pub inserted-shaped : (h : ℕ) (t : Tree E h) (e : E) (c : ℕ) → Shaped (low h) h t → Shaped (low (inserted size join h t e c).0) (inserted size join h t e c).0 (inserted size join h t e c).1
-    inserted-shaped h t e c w = rooted-shaped h e (insert size join h t e c) (insert_shaped h (low h) t e c (low_some low some h) w)
+    pub inserted_shaped : (h : ℕ) (t : Tree E h) (e : E) (c : ℕ) → Shaped (low h) h t → Shaped (low (inserted size join h t e c).0) (inserted size join h t e c).0 (inserted size join h t e c).1
+    inserted_shaped h t e c w = rooted_shaped h e (insert size join h t e c) (insert_shaped h (low h) t e c (low_some low some h) w)

@@ -3,7 +3,7 @@
 use Rattle.std.specs.Prelude.{◌≡◌, ℕ, zero, suc, ◌<◌, ◌≤◌, Bool, cond, not, ◌&&◌, List, [], ◌∷◌, ◌++◌, map, length, take, Some, None, Option, ◌==◌, nat_lt, slice_index_or, slice_set}
 use Rattle.std.specs.List.{range_with_len, prefix_len}
 use Rattle.guttman.specs.Trees.{Tree, extents, bound}
-use Rattle.guttman.specs.Deletion.{Loose, loose_pairs, lowered, inserted-all}
+use Rattle.guttman.specs.Deletion.{Loose, loose_pairs, lowered, inserted_all}
 
 -- the element at place i goes, and the last one takes its place
 abbrev pub without : {X : Type 0} → List X → ℕ → List X
@@ -44,20 +44,20 @@ module _ {E : Type 0} (size : E → ℕ) (join : E → E → E) where
   abbrev pub cut_at : E → (h : ℕ) → Tree E (suc h) → ℕ → Remains E h → Remains E (suc h)
   cut_at e h t i r = cond (nat_lt (length r.0) 3) (without t i, r.1 ++ ((h, r.0) ∷ [])) (slice_set t i (bound size join e (extents r.0), r.0), r.1)
 
-  abbrev pub cut-inner : E → (h : ℕ) → Tree E (suc h) → Option (ℕ × Remains E h) → Option (Remains E (suc h))
-  cut-inner e h t None = None
-  cut-inner e h t (Some r) = Some (cut_at e h t r.0 r.1)
+  abbrev pub cut_inner : E → (h : ℕ) → Tree E (suc h) → Option (ℕ × Remains E h) → Option (Remains E (suc h))
+  cut_inner e h t None = None
+  cut_inner e h t (Some r) = Some (cut_at e h t r.0 r.1)
 
   -- what was cut off is inserted again, in the order in which it was noted, and a root with one child gives way
   abbrev pub mended : (h : ℕ) → Option (Remains E h) → Option ((k : ℕ) × Tree E k)
   mended h None = None
-  mended h (Some r) = Some (lowered (inserted-all size join (h, r.0) (loose_pairs r.1)).0 (inserted-all size join (h, r.0) (loose_pairs r.1)).1)
+  mended h (Some r) = Some (lowered (inserted_all size join (h, r.0) (loose_pairs r.1)).0 (inserted_all size join (h, r.0) (loose_pairs r.1)).1)
 
   module _ (covering : E → E → Bool) (e : E) (c : ℕ) where
     -- the pair is cut out of a tree, if it is there
     abbrev pub cut : (h : ℕ) → Tree E h → Option (Remains E h)
     cut zero t = cut_leaf t (prefix_len (λ p. not (is_pair covering e c p)) t)
-    cut (suc h) t = cut-inner e h t (first_some (λ p. cond (covering p.0 e) (cut h p.1) None) t)
+    cut (suc h) t = cut_inner e h t (first_some (λ p. cond (covering p.0 e) (cut h p.1) None) t)
 
     -- and the tree is mended
     abbrev pub deleted : (h : ℕ) → Tree E h → Option ((k : ℕ) × Tree E k)

@@ -5,12 +5,12 @@ use Rattle.guttman.specs.Trees.{Item, Tree}
 
 module _ {E : Type 0} (test : E → Bool) where
   -- what it comes to at an entry and under it, and in a tree
-  abbrev pub reached-at : (h : ℕ) → E × Item E h → List (E × ℕ)
-  reached-at zero p = cond (test p.0) (p ∷ []) []
-  reached-at (suc h) p = cond (test p.0) (flat_map (reached-at h) p.1) []
+  abbrev pub reached_at : (h : ℕ) → E × Item E h → List (E × ℕ)
+  reached_at zero p = cond (test p.0) (p ∷ []) []
+  reached_at (suc h) p = cond (test p.0) (flat_map (reached_at h) p.1) []
 
   abbrev pub reached : (h : ℕ) → Tree E h → List (E × ℕ)
-  reached h t = flat_map (reached-at h) t
+  reached h t = flat_map (reached_at h) t
 
   -- the pairs whose extent passes, in their order
   abbrev pub passing : List (E × ℕ) → List (E × ℕ)

@@ -11,13 +11,13 @@ module _ {Z : Type 0} where
   flat (Two s t) = s ++ t
 
   -- one node has from low to eight entries, and each of two from three to eight
-  abbrev pub Sized-grown : ℕ → Grown (List Z) → Type 0
-  Sized-grown low (One t) = Sized low t
-  Sized-grown low (Two s t) = Sized 3 s × Sized 3 t
+  abbrev pub SizedGrown : ℕ → Grown (List Z) → Type 0
+  SizedGrown low (One t) = Sized low t
+  SizedGrown low (Two s t) = Sized 3 s × Sized 3 t
 
-  abbrev pub All-grown : (Z → Type 0) → Grown (List Z) → Type 0
-  All-grown P (One t) = All P t
-  All-grown P (Two s t) = All P s × All P t
+  abbrev pub AllGrown : (Z → Type 0) → Grown (List Z) → Type 0
+  AllGrown P (One t) = All P t
+  AllGrown P (Two s t) = All P s × All P t
 
 -- its entries read another way
 abbrev pub mapped : {Z W : Type 0} → (Z → W) → Grown (List Z) → Grown (List W)
@@ -26,10 +26,10 @@ mapped φ (Two s t) = Two (map φ s) (map φ t)
 
 -- each node has as many entries as it may, where one that was not split may have only low
 abbrev pub ShapedGrown : {E : Type 0} → ℕ → (h : ℕ) → Grown (Tree E h) → Type 0
-ShapedGrown low h g = Sized-grown low g × All-grown (Filled h) g
+ShapedGrown low h g = SizedGrown low g × AllGrown (Filled h) g
 
 abbrev pub TightGrown : {E : Type 0} → (E → E → Bool) → (h : ℕ) → Grown (Tree E h) → Type 0
-TightGrown covering h g = All-grown (Exact covering h) g
+TightGrown covering h g = AllGrown (Exact covering h) g
 
 -- how many nodes the one tree has, or the two have
 abbrev pub nodes_grown : {E : Type 0} → (h : ℕ) → Grown (Tree E h) → ℕ

@@ -4,9 +4,9 @@ use Rattle.std.specs.Prelude.{◌≡◌, ℕ, ◌+◌, ◌*◌, ◌<◌, ◌≤�
 use mathlib.Core.List.{Permᴰ}
 use Rattle.std.specs.List.{ContainsAt as Has, AllByRecursion as All}
 use Rattle.guttman.specs.Trees.{Tree, sooner, choose, inserted}
-use Rattle.guttman.specs.Shape.{least_root, slack_root, pairs, nodes, Shaped, Tight, Well-formed}
+use Rattle.guttman.specs.Shape.{least_root, slack_root, pairs, nodes, Shaped, Tight, WellFormed}
 use Rattle.guttman.specs.Finding.{reached, passing, Upward}
-use Rattle.guttman.specs.Deletion.{Loose, Short, loose_pairs, loose_nodes, Cut-out, After-deletion}
+use Rattle.guttman.specs.Deletion.{Loose, Short, loose_pairs, loose_nodes, CutOut, AfterDeletion}
 use Rattle.guttman.specs.Cutting.{deleted}
 
 -- of the extents xs none takes e in sooner than that at i, and it does so sooner than each before it
@@ -26,8 +26,8 @@ pub record Joining {E : Type 0} (join : E → E → E) (covering : E → E → B
 -- after an insertion a well formed tree is well formed, and its pairs are those before and the new one
 abbrev pub InsertionKeeps : {E : Type 0} → (E → ℕ) → (E → E → E) → (E → E → Bool) → Type 0
 InsertionKeeps {E} size join covering =
-    (h : ℕ) (t : Tree E h) (e : E) (c : ℕ) → Well-formed covering h t
-    → Well-formed covering (inserted size join h t e c).0 (inserted size join h t e c).1
+    (h : ℕ) (t : Tree E h) (e : E) (c : ℕ) → WellFormed covering h t
+    → WellFormed covering (inserted size join h t e c).0 (inserted size join h t e c).1
     × Permᴰ (pairs (inserted size join h t e c).0 (inserted size join h t e c).1) ((e, c) ∷ pairs h t)
 
 -- an insertion goes below the first of the entries that take its extent in soonest
@@ -36,7 +36,7 @@ ChoiceSoonest {E} size join = (xs : List E) (e : E) → 0 < length xs → Soones
 
 -- a walk that goes below an entry only where its extent passes comes to every pair that passes, and to no other
 abbrev pub FindingMissesNone : {E : Type 0} → (E → E → Bool) → Type 0
-FindingMissesNone {E} covering = (test : E → Bool) → Upward covering test → (h : ℕ) (t : Tree E h) → Well-formed covering h t → reached test h t ≡ passing test (pairs h t)
+FindingMissesNone {E} covering = (test : E → Bool) → Upward covering test → (h : ℕ) (t : Tree E h) → WellFormed covering h t → reached test h t ≡ passing test (pairs h t)
 
 -- from two pairs on a tree has at most half as many nodes as pairs, and else one
 abbrev pub HalfAsManyNodes : Type 0 → Type 0
@@ -51,16 +51,16 @@ FiveDeep E = (h : ℕ) (t : Tree E h) → Shaped (least_root h) h t → length (
 -- after a pair was deleted a well formed tree is well formed, and the pairs before are those after and the one
 abbrev pub DeletionKeeps : {E : Type 0} → (E → ℕ) → (E → E → E) → (E → E → Bool) → Type 0
 DeletionKeeps {E} size join covering =
-    (h : ℕ) (t : Tree E h) (e : E) (c : ℕ) (u : (k : ℕ) × Tree E k) → Well-formed covering h t → After-deletion size join covering e c h t u
-    → Well-formed covering u.0 u.1 × Permᴰ (pairs h t) ((e, c) ∷ pairs u.0 u.1)
+    (h : ℕ) (t : Tree E h) (e : E) (c : ℕ) (u : (k : ℕ) × Tree E k) → WellFormed covering h t → AfterDeletion size join covering e c h t u
+    → WellFormed covering u.0 u.1 × Permᴰ (pairs h t) ((e, c) ∷ pairs u.0 u.1)
 
 -- what the computed way answers: a pair that the tree stores is deleted, and of another it says that there is none
 pub record Answered {E : Type 0} (size : E → ℕ) (join : E → E → E) (covering : E → E → Bool) (e : E) (c h : ℕ) (t : Tree E h) : Type 0 where
-  pub stored : Has (pairs h t) (e, c) → (u : (k : ℕ) × Tree E k) × (deleted size join covering e c h t ≡ Some u) × After-deletion size join covering e c h t u
+  pub stored : Has (pairs h t) (e, c) → (u : (k : ℕ) × Tree E k) × (deleted size join covering e c h t ≡ Some u) × AfterDeletion size join covering e c h t u
   pub absent : (Has (pairs h t) (e, c) → ⊥) → deleted size join covering e c h t ≡ None
 
 abbrev pub DeletionAnswers : {E : Type 0} → (E → ℕ) → (E → E → E) → (E → E → Bool) → Type 0
-DeletionAnswers {E} size join covering = (h : ℕ) (t : Tree E h) (e : E) (c : ℕ) → Well-formed covering h t → Answered size join covering e c h t
+DeletionAnswers {E} size join covering = (h : ℕ) (t : Tree E h) (e : E) (c : ℕ) → WellFormed covering h t → Answered size join covering e c h t
 
 -- what is there while the pairs under what was cut off are still to be inserted again: no pair is lost, no node is added, the root has one
 -- entry at least above other nodes, and each node that was cut off has two
@@ -73,4 +73,4 @@ pub record Halfway {E : Type 0} (covering : E → E → Bool) (e : E) (c h : ℕ
 
 abbrev pub CutHalfway : {E : Type 0} → (E → E → Bool) → Type 0
 CutHalfway {E} covering =
-    (h : ℕ) (t s : Tree E h) (e : E) (c : ℕ) (loose : List (Loose E)) → Well-formed covering h t → Cut-out covering e c h t s loose → Halfway covering e c h t s loose
+    (h : ℕ) (t s : Tree E h) (e : E) (c : ℕ) (loose : List (Loose E)) → WellFormed covering h t → CutOut covering e c h t s loose → Halfway covering e c h t s loose

@@ -28,12 +28,12 @@ module _ {E : Type 0} where
   pairs h t = flat_map (leaves h) t
 
   -- how many nodes an entry has under it, its own included, and a tree
-  abbrev pub nodes-of : (h : ℕ) → E × Item E h → ℕ
-  nodes-of zero p = 0
-  nodes-of (suc h) p = 1 + sum_by (nodes-of h) p.1
+  abbrev pub nodes_of : (h : ℕ) → E × Item E h → ℕ
+  nodes_of zero p = 0
+  nodes_of (suc h) p = 1 + sum_by (nodes_of h) p.1
 
   abbrev pub nodes : (h : ℕ) → Tree E h → ℕ
-  nodes h t = 1 + sum_by (nodes-of h) t
+  nodes h t = 1 + sum_by (nodes_of h) t
 
   -- each node under an entry has three to eight entries
   abbrev pub Filled : (h : ℕ) → E × Item E h → Type 0
@@ -45,20 +45,20 @@ module _ {E : Type 0} where
   Shaped low h t = Sized low t × All (Filled h) t
 
   -- e is the join of the extents xs: it covers them all, and is covered by all that covers them all
-  pub record Is-join (covering : E → E → Bool) (e : E) (xs : List E) : Type 0 where
+  pub record IsJoin (covering : E → E → Bool) (e : E) (xs : List E) : Type 0 where
     pub above : All (λ x. covering e x ≡ true) xs
     pub least : (u : E) → All (λ x. covering u x ≡ true) xs → covering u e ≡ true
 
   -- the extent of an inner entry, and of each one under it, is the join of its node's extents
   abbrev pub Exact : (E → E → Bool) → (h : ℕ) → E × Item E h → Type 0
   Exact covering zero p = Unit {0}
-  Exact covering (suc h) p = Is-join covering p.0 (extents p.1) × All (Exact covering h) p.1
+  Exact covering (suc h) p = IsJoin covering p.0 (extents p.1) × All (Exact covering h) p.1
 
   abbrev pub Tight : (E → E → Bool) → (h : ℕ) → Tree E h → Type 0
   Tight covering h t = All (Exact covering h) t
 
   -- a tree is well formed: its leaves are equally deep, as they are in every tree here; its nodes have as many entries as they may; and
   -- its inner extents are exact
-  pub record Well-formed (covering : E → E → Bool) (h : ℕ) (t : Tree E h) : Type 0 where
+  pub record WellFormed (covering : E → E → Bool) (h : ℕ) (t : Tree E h) : Type 0 where
     pub shape : Shaped (least_root h) h t
     pub tight : Tight covering h t

@@ -155,12 +155,12 @@ pub pixels_between : (l : Ends) (x y : ℕ) → among (pixels l) x y ≡ true �
 pixels_between l x y e = ⊎_elim
     (λ h. let b = flat_between (turned l) y x (omega arith) (sym (ap (λ ps. among ps x y) (pixels_steep l h) ∙ among_turned l x y) ∙ e) in (b.1, b.0))
     (λ h. ⊎_elim
-    (λ z. let q = among-dot l x y z (omega (arith, z)) e in ((omega (arith, q.0), omega (arith, q.0)), (omega (arith, q.1), omega (arith, q.1))))
+    (λ z. let q = among_dot l x y z (omega (arith, z)) e in ((omega (arith, q.0), omega (arith, q.0)), (omega (arith, q.1), omega (arith, q.1))))
     (λ z. flat_between l x y (omega (arith, z)) (sym (ap (λ ps. among ps x y) (pixels_flat l (omega (arith, z)) h)) ∙ e))
     (cases_eq (dx l) 0))
     (cases_lt (dx l) (dy l))
   where
-    among-dot : (l : Ends) (x y : ℕ) → dx l ≡ 0 → dy l ≡ 0 → among (pixels l) x y ≡ true → (l.x0 ≡ x) × (l.y0 ≡ y)
-    among-dot l x y h k e =
+    among_dot : (l : Ends) (x y : ℕ) → dx l ≡ 0 → dy l ≡ 0 → among (pixels l) x y ≡ true → (l.x0 ≡ x) × (l.y0 ≡ y)
+    among_dot l x y h k e =
         let p : (eqb l.x0 x && eqb l.y0 y || false) ≡ true = sym (ap (λ ps. among ps x y) (pixels_dot l h k)) ∙ e in
         ⊎_elim (λ q. (eqb-true _ _ (and_parts _ _ q).0, eqb-true _ _ (and_parts _ _ q).1)) (λ q. absurd (false≢true q)) (or_cases (eqb l.x0 x && eqb l.y0 y) false p)

@@ -9,7 +9,7 @@ use Rattle.quadratic.proofs.Fair.{split9_fair}
 use Rattle.quadratic.proofs.Parts.{part_more, part_count}
 use Rattle.guttman.specs.Trees.{One, Two, add}
 use Rattle.node_rows.specs.Rows.{row}
-use Rattle.node_rows.specs.Nodes.{extents-in, Ready, Untouched, Pushed, Laid, Scattered, Set-up, Dealt, spare, idle}
+use Rattle.node_rows.specs.Nodes.{extents_in, Ready, Untouched, Pushed, Laid, Scattered, SetUp, Dealt, spare, idle}
 use Rattle.node_rows.proofs.RowSet.{row_count, count_row, pushed_here, pushed_other, pushed_ready, pushed_count, pushed_untouched}
 use Rattle.node_rows.proofs.Spares.{spare_off, spare_set, spare_kept}
 
@@ -67,16 +67,16 @@ module _ {E : Type 0} (places : List (Entry E)) (counts : List ℕ) (at to : ℕ
   }
 
   module _ {places₁ : List (Entry E)} {counts₁ : List ℕ} (n : ℕ) (s : Scattered places counts places₁ counts₁ at to n ls) where
-    pub scattered-few : (get_or counts₁ at 0 ≤ n) × (get_or counts₁ to 0 ≤ n)
-    scattered-few =
+    pub scattered_few : (get_or counts₁ at 0 ≤ n) × (get_or counts₁ to 0 ≤ n)
+    scattered_few =
         let k = length-take n ls in (
           let c = count_row places₁ counts₁ s.ready at there in let l = ap length s.a in let p = part_short true (take n ls) (take n (drop (8 * at) places)) in omega arith,
           let c = count_row places₁ counts₁ s.ready to there' in let l = ap length s.b in let p = part_short false (take n ls) (take n (drop (8 * at) places)) in omega arith,
         )
 
-    pub scattered-more : n < 8 → (x : Entry E) → x ≡ get_or places₁ (8 * at + n) x → (places₂ : List (Entry E)) (counts₂ : List ℕ) → Laid places₁ counts₁ places₂ counts₂ at to (get_or ls n 0) x
+    pub scattered_more : n < 8 → (x : Entry E) → x ≡ get_or places₁ (8 * at + n) x → (places₂ : List (Entry E)) (counts₂ : List ℕ) → Laid places₁ counts₁ places₂ counts₂ at to (get_or ls n 0) x
         → Scattered places counts places₂ counts₂ at to (n + 1) ls
-    scattered-more l x is places₂ counts₂ laid =
+    scattered_more l x is places₂ counts₂ laid =
         let L = drop (8 * at) places in
         let long_L : 8 ≤ length L = let k = length-drop (8 * at) places in omega arith in
         let x-is : x ≡ get_or L n x = is ∙ s.ahead n x (omega arith) l ∙ sym (get_or-drop (8 * at) places n x) in
@@ -85,7 +85,7 @@ module _ {E : Type 0} (places : List (Entry E)) (counts : List ℕ) (at to : ℕ
         let same : length (take n ls) ≡ length (take n L) = let p = length-take n ls in let q = length-take n L in omega arith in
         let both : (t : Bool) → part t (take n ls) (take n L) ++ part t (get_or ls n 0 ∷ []) (x ∷ []) ≡ part t (take (n + 1) ls) (take (n + 1) L) =
         λ t. sym (ap (λ z. part t z (take (n + 1) L)) more-l ∙ ap (part t (take n ls ++ (get_or ls n 0 ∷ []))) more ∙ part_more t (take n ls) (get_or ls n 0) (take n L) x same) in
-        let few = scattered-few.0 in
+        let few = scattered_few.0 in
         record {
           ready = laid.ready;
           a = laid.a ∙ ap (λ z. z ++ part true (get_or ls n 0 ∷ []) (x ∷ [])) s.a ∙ both true;
@@ -98,7 +98,7 @@ module _ {E : Type 0} (places : List (Entry E)) (counts : List ℕ) (at to : ℕ
 -- ---- a row that was not in use gets two entries
 
 pub set_up_two : {E : Type 0} {places : List (Entry E)} {counts : List ℕ} {places₁ : List (Entry E)} {counts₁ : List ℕ} {places₂ : List (Entry E)} {counts₂ : List ℕ} {top : ℕ} {x y : Entry E}
-    → Ready places counts → top < 256 → get_or counts top 0 ≡ 0 → Pushed places counts places₁ counts₁ top x → Pushed places₁ counts₁ places₂ counts₂ top y → Set-up places counts places₂ counts₂ top (x ∷ y ∷ [])
+    → Ready places counts → top < 256 → get_or counts top 0 ≡ 0 → Pushed places counts places₁ counts₁ top x → Pushed places₁ counts₁ places₂ counts₂ top y → SetUp places counts places₂ counts₂ top (x ∷ y ∷ [])
 set_up_two {E} {places} {counts} {places₁} {counts₁} {places₂} {counts₂} {top} {x} {y} ready there free p q =
     let room : get_or counts top 0 < 8 = omega arith in
     let ready₁ = pushed_ready p ready there room in
@@ -120,8 +120,8 @@ set_up_two {E} {places} {counts} {places₁} {counts₁} {places₂} {counts₂}
 
 module _ {E : Type 0} (size : E → ℕ) (join : E → E → E) where
   -- the letters of a full row's entries and one more
-  abbrev pub letters-of : List (Entry E) → Entry E → List ℕ
-  letters-of es x = split9 size join (λ i. get_or (extents-in es) i x.extent)
+  abbrev pub letters_of : List (Entry E) → Entry E → List ℕ
+  letters_of es x = split9 size join (λ i. get_or (extents_in es) i x.extent)
 
   pub dealt_one : {places : List (Entry E)} {counts : List ℕ} {places' : List (Entry E)} {counts' : List ℕ} {r : ℕ} {x : Entry E}
       → Ready places counts → r < 256 → get_or counts r 0 < 8 → Pushed places counts places' counts' r x → Dealt places counts places' counts' size join r None x
@@ -134,7 +134,7 @@ module _ {E : Type 0} (size : E → ℕ) (join : E → E → E) where
       record {
         ready = pushed_ready p ready there room;
         spares = subst (λ z. spare counts ≤ spare z + 1) (sym p.counted) (spare_set counts r (get_or counts r 0 + 1));
-        is = ap One here ∙ ap (λ t. cond t (One L) (Two (part true (letters-of (f r) x) L) (part false (letters-of (f r) x) L))) (sym (lt-ltb (length (f r)) 8 (omega arith)));
+        is = ap One here ∙ ap (λ t. cond t (One L) (Two (part true (letters_of (f r) x) L) (part false (letters_of (f r) x) L))) (sym (lt-ltb (length (f r)) 8 (omega arith)));
         others = λ q o. pushed_other p ready there room q o.0;
         clear = λ q n ne. (ne, tt);
         distinct = (tt, tt);
@@ -144,15 +144,15 @@ module _ {E : Type 0} (size : E → ℕ) (join : E → E → E) where
 
   -- a full row was split
   module _ (places : List (Entry E)) (counts : List ℕ) (at to : ℕ) (ls : List ℕ) (ready : Ready places counts) (there : at < 256) (there' : to < 256)
-      (full : 8 ≤ get_or counts at 0) (free : get_or counts to 0 ≡ 0) (x : Entry E) (letters : ls ≡ letters-of (row places counts at) x) where
-    pub split-apart : to ≡ at → ⊥
-    split-apart z = let k = ap (λ q. get_or counts q 0) z in omega arith
+      (full : 8 ≤ get_or counts at 0) (free : get_or counts to 0 ≡ 0) (x : Entry E) (letters : ls ≡ letters_of (row places counts at) x) where
+    pub split_apart : to ≡ at → ⊥
+    split_apart z = let k = ap (λ q. get_or counts q 0) z in omega arith
 
-    pub split-nine : length ls ≡ 9
-    split-nine = ap length letters ∙ (split9_fair size join (λ i. get_or (extents-in (row places counts at)) i x.extent)).0
+    pub split_nine : length ls ≡ 9
+    split_nine = ap length letters ∙ (split9_fair size join (λ i. get_or (extents_in (row places counts at)) i x.extent)).0
 
-    pub split-ready : Ready places (set counts at 0)
-    split-ready = record {
+    pub split_ready : Ready places (set counts at 0)
+    split_ready = record {
       long = ready.long;
       wide = length-set counts at 0 ∙ ready.wide;
       within = row_count counts at 0 (let w = ready.wide in omega arith) (omega arith) ready.within;
@@ -168,34 +168,34 @@ module _ {E : Type 0} (size : E → ℕ) (join : E → E → E) where
       eight : get_or counts at 0 ≡ 8
       eight = let w = ready.within at in omega arith
 
-      f-at : f at ≡ take 8 (drop (8 * at) places)
-      f-at = ap (λ n. take n (drop (8 * at) places)) eight
+      f_at : f at ≡ take 8 (drop (8 * at) places)
+      f_at = ap (λ n. take n (drop (8 * at) places)) eight
 
       len : length (f at) ≡ 8
       len = let c = count_row places counts ready at there in let e = eight in omega arith
 
       fair : (3 ≤ tally 65 ls) × (tally 65 ls ≤ 6)
       fair =
-          let g = split9_fair size join (λ i. get_or (extents-in (f at)) i x.extent) in
+          let g = split9_fair size join (λ i. get_or (extents_in (f at)) i x.extent) in
           subst (λ z. (3 ≤ tally 65 z) × (tally 65 z ≤ 6)) (sym letters) (g.1, g.2)
 
-      ls-is : ls ≡ take 8 ls ++ (get_or ls 8 0 ∷ [])
-      ls-is = sym (take_all 9 ls (let n = split-nine in omega arith)) ∙ take_more ls 8 0 (let n = split-nine in omega arith)
+      ls_is : ls ≡ take 8 ls ++ (get_or ls 8 0 ∷ [])
+      ls_is = sym (take_all 9 ls (let n = split_nine in omega arith)) ∙ take_more ls 8 0 (let n = split_nine in omega arith)
 
       all : (t : Bool) → part t (take 8 ls) (take 8 (drop (8 * at) places)) ++ part t (get_or ls 8 0 ∷ []) (x ∷ []) ≡ part t ls L
       all t =
-          ap (λ z. part t (take 8 ls) z ++ part t (get_or ls 8 0 ∷ []) (x ∷ [])) (sym f-at)
-          ∙ sym (ap (λ z. part t z L) ls-is ∙ part_more t (take 8 ls) (get_or ls 8 0) (f at) x (let n = length-take 8 ls in let m = split-nine in let k = len in omega arith))
+          ap (λ z. part t (take 8 ls) z ++ part t (get_or ls 8 0 ∷ []) (x ∷ [])) (sym f_at)
+          ∙ sym (ap (λ z. part t z L) ls_is ∙ part_more t (take 8 ls) (get_or ls 8 0) (f at) x (let n = length-take 8 ls in let m = split_nine in let k = len in omega arith))
 
       sizes : (3 ≤ length (part true ls L)) × (length (part true ls L) ≤ 6) × (3 ≤ length (part false ls L)) × (length (part false ls L) ≤ 6)
       sizes =
-          let n : length ls ≡ length L = split-nine ∙ (let a = length_push (f at) x in let b = len in omega arith) in
+          let n : length ls ≡ length L = split_nine ∙ (let a = length_push (f at) x in let b = len in omega arith) in
           let c = part_count ls L n in
-          let u = c.0 in let v = c.1 in let g = fair in let p = g.0 in let q = g.1 in let m = split-nine in
+          let u = c.0 in let v = c.1 in let g = fair in let p = g.0 in let q = g.1 in let m = split_nine in
           (omega arith, omega arith, omega arith, omega arith)
 
-      pub split-room : (get_or counts₁ at 0 < 8) × (get_or counts₁ to 0 < 8)
-      split-room =
+      pub split_room : (get_or counts₁ at 0 < 8) × (get_or counts₁ to 0 < 8)
+      split_room =
           let a = ap length (all true) in
           let b = ap length (all false) in
           let a' = length-append (part true (take 8 ls) (take 8 (drop (8 * at) places))) (part true (get_or ls 8 0 ∷ []) (x ∷ [])) in
@@ -211,11 +211,11 @@ module _ {E : Type 0} (size : E → ℕ) (join : E → E → E) where
         abbrev f' : ℕ → List (Entry E)
         f' = row places₂ counts₂
 
-        a-is : f' at ≡ part true ls L
-        a-is = laid.a ∙ ap (λ z. z ++ part true (get_or ls 8 0 ∷ []) (x ∷ [])) s.a ∙ all true
+        a_is : f' at ≡ part true ls L
+        a_is = laid.a ∙ ap (λ z. z ++ part true (get_or ls 8 0 ∷ []) (x ∷ [])) s.a ∙ all true
 
-        b-is : f' to ≡ part false ls L
-        b-is = laid.b ∙ ap (λ z. z ++ part false (get_or ls 8 0 ∷ []) (x ∷ [])) s.b ∙ all false
+        b_is : f' to ≡ part false ls L
+        b_is = laid.b ∙ ap (λ z. z ++ part false (get_or ls 8 0 ∷ []) (x ∷ [])) s.b ∙ all false
 
         rest : (q : ℕ) → (q ≡ at → ⊥) → (q ≡ to → ⊥) → f' q ≡ f q
         rest q u v = laid.others q u v ∙ s.others q u v ∙ ap (λ n. take n (drop (8 * q) places)) (get_or-set_other counts at q 0 0 u)
@@ -234,22 +234,22 @@ module _ {E : Type 0} (size : E → ℕ) (join : E → E → E) where
                   let i = ap idle m in omega arith
             ])
 
-        pub dealt-two : Dealt places counts places₂ counts₂ size join at (Some to) x
+        pub dealt_two : Dealt places counts places₂ counts₂ size join at (Some to) x
         unfolding add
-        dealt-two =
-            let ks = letters-of (f at) x in
+        dealt_two =
+            let ks = letters_of (f at) x in
             let z = sizes in
             let p = z.0 in let q = z.2 in
-            let u = ap length a-is in let v = ap length b-is in
+            let u = ap length a_is in let v = ap length b_is in
             let none : length (f to) ≡ 0 = let c = count_row places counts ready to there' in omega arith in
             record {
               ready = laid.ready;
               spares = few;
-              is = ap (λ w. Two w (f' to)) a-is ∙ ap (Two (part true ls L)) b-is ∙ ap (λ w. Two (part true w L) (part false w L)) letters
+              is = ap (λ w. Two w (f' to)) a_is ∙ ap (Two (part true ls L)) b_is ∙ ap (λ w. Two (part true w L) (part false w L)) letters
                   ∙ ap (λ t. cond t (One L) (Two (part true ks L) (part false ks L))) (sym (le-ltb (length (f at)) 8 (let l = len in omega arith)));
               others = λ q o. rest q o.0 o.1.0;
               clear = λ q n ne. (ne, ((λ w. let k = ap (λ i. length (f i)) w in omega arith), tt));
-              distinct = (((λ w. split-apart (sym w)), tt), (tt, tt));
+              distinct = (((λ w. split_apart (sym w)), tt), (tt, tt));
               live = ((there, omega arith), ((there', omega arith), tt));
               memory = λ q d o. laid.memory q d o ∙ s.memory q d o;
             }

@@ -8,8 +8,8 @@ use Rattle.std.proofs.lemmas.Bool.{cases_lt}
 use Rattle.extent.specs.declared.entry.Entry.{Entry}
 use Rattle.guttman.specs.Trees.{Item, Tree}
 use Rattle.guttman.specs.Shape.{pairs, Tight}
-use Rattle.guttman.specs.Finding.{reached-at, reached, passing, Upward}
-use Rattle.guttman.proofs.Finding.{reached-passing}
+use Rattle.guttman.specs.Finding.{reached_at, reached, passing, Upward}
+use Rattle.guttman.proofs.Finding.{reached_passing}
 use Rattle.node_rows.specs.Rows.{item, below}
 use Rattle.node_rows.specs.Walks.{codes, Finds}
 
@@ -52,11 +52,11 @@ put_more l m o i n k vs ws p q =
 module _ {E : Type 0} (f : ℕ → List (Entry E)) (test : E → Bool) where
   -- the codes that it comes to at one entry of a node of height h and under it
   abbrev pub codes_at : ℕ → Entry E → List ℕ
-  codes_at h d = codes (reached-at test h (d.extent, item f h d.code))
+  codes_at h d = codes (reached_at test h (d.extent, item f h d.code))
 
   -- those at the first i entries of row r
-  abbrev pub codes-of : (h r i : ℕ) → List ℕ
-  codes-of h r i = codes (reached test h (take i (below f h r)))
+  abbrev pub codes_of : (h r i : ℕ) → List ℕ
+  codes_of h r i = codes (reached test h (take i (below f h r)))
 
   pub codes_missed : (h : ℕ) (d : Entry E) → test d.extent ≡ false → codes_at h d ≡ []
   codes_missed zero d v = ap (λ b. codes (cond b ((d.extent, d.code) ∷ []) [])) v
@@ -68,22 +68,22 @@ module _ {E : Type 0} (f : ℕ → List (Entry E)) (test : E → Bool) where
   pub codes_inner : (h k : ℕ) (d : Entry E) → h ≡ suc k → test d.extent ≡ true → codes_at h d ≡ codes (reached test k (below f k d.code))
   codes_inner h k d s v = ap (λ n. codes_at n d) s ∙ ap (λ b. codes (cond b (reached test k (below f k d.code)) [])) v
 
-  codes_more : (h r i : ℕ) (d : Entry E) → i < length (f r) → d ≡ get_or (f r) i d → codes-of h r (i + 1) ≡ codes-of h r i ++ codes_at h d
+  codes_more : (h r i : ℕ) (d : Entry E) → i < length (f r) → d ≡ get_or (f r) i d → codes_of h r (i + 1) ≡ codes_of h r i ++ codes_at h d
   codes_more h r i d l e =
       let g : Entry E → E × Item E h = λ x. (x.extent, item f h x.code) in
       let one : take (i + 1) (below f h r) ≡ take i (below f h r) ++ (g d ∷ []) =
       take-map g (i + 1) (f r) ∙ ap (map g) (take_more (f r) i d l ∙ ap (λ y. take i (f r) ++ (y ∷ [])) (sym e)) ∙ map-append g (take i (f r)) (d ∷ []) ∙ ap (λ z. z ++ (g d ∷ [])) (sym (take-map g i (f r))) in
-      ap (λ z. codes (reached test h z)) one ∙ ap codes (sym (flat_map_more (reached-at test h) [] (take i (below f h r)) (g d)))
-      ∙ map-append (λ (p : E × ℕ). p.1) (reached test h (take i (below f h r))) (reached-at test h (g d))
+      ap (λ z. codes (reached test h z)) one ∙ ap codes (sym (flat_map_more (reached_at test h) [] (take i (below f h r)) (g d)))
+      ∙ map-append (λ (p : E × ℕ). p.1) (reached test h (take i (below f h r))) (reached_at test h (g d))
 
   -- a turn of the walk, at entry i of row r
   pub walked_more : (h r i : ℕ) (d : Entry E) → i < length (f r) → d ≡ get_or (f r) i d → (l m o : List ℕ) (found n k : ℕ) (more : List ℕ)
-      → codes_at h d ≡ more → Put l found (codes-of h r i) n m → Put m n more k o → Put l found (codes-of h r (i + 1)) k o
+      → codes_at h d ≡ more → Put l found (codes_of h r i) n m → Put m n more k o → Put l found (codes_of h r (i + 1)) k o
   walked_more h r i d l' e l m o found n k more is p q =
       let P : List ℕ → Type 0 = λ z. Put l found z k o in
-      subst P (ap (λ z. codes-of h r i ++ z) (sym is) ∙ sym (codes_more h r i d l' e)) (put_more l m o found n k (codes-of h r i) more p q)
+      subst P (ap (λ z. codes_of h r i ++ z) (sym is) ∙ sym (codes_more h r i d l' e)) (put_more l m o found n k (codes_of h r i) more p q)
 
-  pub walked_all : (h r i : ℕ) → length (f r) ≤ i → codes-of h r i ≡ codes (reached test h (below f h r))
+  pub walked_all : (h r i : ℕ) → length (f r) ≤ i → codes_of h r i ≡ codes (reached test h (below f h r))
   walked_all h r i l =
       let g : Entry E → E × Item E h = λ x. (x.extent, item f h x.code) in
       let k : length (below f h r) ≤ i = omega (arith, length-map (f r) g) in
@@ -106,7 +106,7 @@ pub finds_all : {E : Type 0} (covering : E → E → Bool) (test : E → Bool) �
     → Finds (passing test (pairs h t)) l n m
 finds_all covering test up h t tight l m n room count wrote =
     let ps = passing test (pairs h t) in
-    let same : reached test h t ≡ ps = reached-passing covering test up h t tight in
+    let same : reached test h t ≡ ps = reached_passing covering test up h t tight in
     let long : length (codes (reached test h t)) ≡ length ps = ap (λ z. length (codes z)) same ∙ length-map ps (λ p. p.1) in
     let few : length ps ≤ length (pairs h t) = omega (arith, length-filter (λ p. test p.0) (pairs h t), count_by-le-length (λ p. test p.0) (pairs h t)) in
     let size : n ≡ length ps = omega arith in

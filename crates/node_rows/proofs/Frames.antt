@@ -8,7 +8,7 @@ use Rattle.std.proofs.lemmas.List.Sums.{sum_by-cons}
 use Rattle.extent.specs.declared.entry.Entry.{Entry}
 use Rattle.quadratic.proofs.Perms.{joined_append, perm_same, perm_front, perm_joined}
 use Rattle.guttman.specs.Trees.{Item}
-use Rattle.guttman.specs.Shape.{nodes-of, nodes}
+use Rattle.guttman.specs.Shape.{nodes_of, nodes}
 use Rattle.guttman.proofs.Lists.{joined_same}
 use Rattle.node_rows.specs.Rows.{below, under, used}
 use Rattle.node_rows.specs.Nodes.{seen}
@@ -49,16 +49,16 @@ module _ {E : Type 0} (f : ℕ → List (Entry E)) where
       (Permᴰ.trans (perm_front rs (under f h (f r)) (under f h (flat_map f rs))) (Permᴰ.append_left (under f h (f r)) (perm_used h rs))))
 
   -- a tree takes a row for each of its nodes
-  length_under : (h : ℕ) (es : List (Entry E)) → length (under f h es) ≡ sum_by (nodes-of h) (map (seen f h) es)
+  length_under : (h : ℕ) (es : List (Entry E)) → length (under f h es) ≡ sum_by (nodes_of h) (map (seen f h) es)
   length_under zero [] = refl
-  length_under zero (x ∷ es) = let s = sum_by-cons (nodes-of 0) (seen f 0 x) (map (seen f 0) es) in let ih = length_under zero es in omega arith
+  length_under zero (x ∷ es) = let s = sum_by-cons (nodes_of 0) (seen f 0 x) (map (seen f 0) es) in let ih = length_under zero es in omega arith
   length_under (suc h) [] = refl
   length_under (suc h) (x ∷ es) =
       let ih = length_under (suc h) es in
       let here = length_under h (f x.code) in
-      let sums : suc (length (under f h (f x.code))) + length (under f (suc h) es) ≡ (1 + sum_by (nodes-of h) (map (seen f h) (f x.code))) + sum_by (nodes-of (suc h)) (map (seen f (suc h)) es) =
+      let sums : suc (length (under f h (f x.code))) + length (under f (suc h) es) ≡ (1 + sum_by (nodes_of h) (map (seen f h) (f x.code))) + sum_by (nodes_of (suc h)) (map (seen f (suc h)) es) =
       omega arith in
-      length-append (used f h x.code) (under f (suc h) es) ∙ sums ∙ sym (sum_by-cons (nodes-of (suc h)) (seen f (suc h) x) (map (seen f (suc h)) es))
+      length-append (used f h x.code) (under f (suc h) es) ∙ sums ∙ sym (sum_by-cons (nodes_of (suc h)) (seen f (suc h) x) (map (seen f (suc h)) es))
 
   pub length_used : (h r : ℕ) → length (used f h r) ≡ nodes h (below f h r)
   length_used h r = let l = length_under h (f r) in omega arith

@@ -11,7 +11,7 @@ use Rattle.guttman.specs.Trees.{Item, Tree}
 use Rattle.guttman.specs.Shape.{leaves, pairs}
 use Rattle.node_rows.specs.Rows.{row, below, under, used}
 use Rattle.node_rows.specs.Nodes.{seen, Off, Distinct, Live, Ready, Placed}
-use Rattle.node_rows.specs.Removal.{as-pair, Freed, Gathered}
+use Rattle.node_rows.specs.Removal.{as_pair, Freed, Gathered}
 use Rattle.node_rows.proofs.RowSet.{count_short, count_row}
 use Rattle.node_rows.proofs.Separate.{all_unappend, apart_flip, distinct_parts}
 use Rattle.node_rows.proofs.Frames.{same_seen, under_append}
@@ -62,16 +62,16 @@ module _ {E : Type 0} (places : List (Entry E)) {c c₁ : List ℕ} {rs : List �
 
 module _ {E : Type 0} where
   pub gathered_none : (again : List (Entry E)) (n : ℕ) → Gathered again n again n []
-  gathered_none again n = record { counted = omega arith; listed = sym (append-nil (map as-pair (take n again))) }
+  gathered_none again n = record { counted = omega arith; listed = sym (append-nil (map as_pair (take n again))) }
 
   pub gathered_more : {a a₁ a₂ : List (Entry E)} {n n₁ n₂ : ℕ} {ps qs : List (E × ℕ)} → Gathered a n a₁ n₁ ps → Gathered a₁ n₁ a₂ n₂ qs → Gathered a n a₂ n₂ (ps ++ qs)
   gathered_more {a} {a₁} {a₂} {n} {n₁} {n₂} {ps} {qs} g k = record {
     counted = let x = g.counted in let y = k.counted in let l = length-append ps qs in omega arith;
-    listed = k.listed ∙ ap (λ z. z ++ qs) g.listed ∙ append_assoc (map as-pair (take n a)) ps qs;
+    listed = k.listed ∙ ap (λ z. z ++ qs) g.listed ∙ append_assoc (map as_pair (take n a)) ps qs;
   }
 
-  pub gathered_one : (again : List (Entry E)) (n : ℕ) (x : Entry E) → n < length again → Gathered again n (set again n x) (n + 1) (as-pair x ∷ [])
-  gathered_one again n x l = record { counted = refl; listed = ap (map as-pair) (take_more_set again n x l) ∙ map_push as-pair (take n again) x }
+  pub gathered_one : (again : List (Entry E)) (n : ℕ) (x : Entry E) → n < length again → Gathered again n (set again n x) (n + 1) (as_pair x ∷ [])
+  gathered_one again n x l = record { counted = refl; listed = ap (map as_pair) (take_more_set again n x l) ∙ map_push as_pair (take n again) x }
 
 -- ---- the entries of a node, one after the other
 

@@ -9,9 +9,9 @@ use Rattle.extent.specs.declared.entry.Entry.{Entry}
 use Rattle.quadratic.proofs.Perms.{perm_same, map_map}
 use Rattle.guttman.specs.Trees.{Item, Tree, Grown, One, Two, extents, bound, choose, add, renewed, insert}
 use Rattle.guttman.specs.Growth.{flat, mapped}
-use Rattle.guttman.proofs.Adding.{add-perm, add_mapped}
+use Rattle.guttman.proofs.Adding.{add_perm, add_mapped}
 use Rattle.node_rows.specs.Rows.{row, below, under, used}
-use Rattle.node_rows.specs.Nodes.{extents-in, seen, Off, Distinct, Live, Ready, Placed, Untouched, halves, rows_of, trees-of, Dealt, Kept, Inserted, spare}
+use Rattle.node_rows.specs.Nodes.{extents_in, seen, Off, Distinct, Live, Ready, Placed, Untouched, halves, rows_of, trees_of, Dealt, Kept, Inserted, spare}
 use Rattle.node_rows.proofs.RowSet.{row_set_here, row_set_other, set_untouched, length_row, count_row, count_short}
 use Rattle.node_rows.proofs.Separate.{all_unappend}
 use Rattle.node_rows.proofs.Frames.{same_seen, under_append}
@@ -19,13 +19,13 @@ use Rattle.node_rows.proofs.Plans.{Planned, kept_planned, planned_same, planned_
 use Rattle.node_rows.proofs.Children.{Child, child_in, child_is, child_perm, child_full, child_apart, child_live, child_own}
 
 -- the extent above a node, over the entries of its row
-pub bound_seen : {E : Type 0} (size : E → ℕ) (join : E → E → E) (f : ℕ → List (Entry E)) (h q : ℕ) (e : E) → bound size join e (extents-in (f q)) ≡ bound size join e (extents (below f h q))
+pub bound_seen : {E : Type 0} (size : E → ℕ) (join : E → E → E) (f : ℕ → List (Entry E)) (h q : ℕ) (e : E) → bound size join e (extents_in (f q)) ≡ bound size join e (extents (below f h q))
 bound_seen size join f h q e = ap (bound size join e) (sym (map_map (λ p. p.0) (seen f h) (f q)))
 
 -- ---- a row that was dealt out, seen as trees
 
 module _ {E : Type 0} (size : E → ℕ) (join : E → E → E) (g : ℕ → List (Entry E)) (r : ℕ) where
-  trees_are : (h : ℕ) (o : Option ℕ) → trees-of g h r o ≡ mapped (seen g h) (rows_of g r o)
+  trees_are : (h : ℕ) (o : Option ℕ) → trees_of g h r o ≡ mapped (seen g h) (rows_of g r o)
   trees_are h None = refl
   trees_are h (Some s) = refl
 
@@ -34,11 +34,11 @@ module _ {E : Type 0} (size : E → ℕ) (join : E → E → E) (g : ℕ → Lis
   flat_rows (Some s) = ap (λ z. g r ++ z) (sym (append-nil (g s)))
 
   dealt_seen : (h : ℕ) (o : Option ℕ) (es : List (Entry E)) (y : Entry E) → rows_of g r o ≡ add size join (λ e. e.extent) es y
-      → trees-of g h r o ≡ add size join (λ p. p.0) (map (seen g h) es) (seen g h y)
+      → trees_of g h r o ≡ add size join (λ p. p.0) (map (seen g h) es) (seen g h y)
   dealt_seen h o es y is = trees_are h o ∙ ap (mapped (seen g h)) is ∙ sym (add_mapped size join (λ p. p.0) (seen g h) es y)
 
   dealt_perm : (o : Option ℕ) (es : List (Entry E)) (y : Entry E) → length es ≤ 8 → rows_of g r o ≡ add size join (λ e. e.extent) es y → Permᴰ (es ++ (y ∷ [])) (flat_map g (halves r o))
-  dealt_perm o es y few is = mathlib.Core.List.Permᴰ.trans (mathlib.Core.List.Permᴰ.symm (add-perm size join (λ e. e.extent) es y few)) (perm_same (ap flat (sym is) ∙ flat_rows o))
+  dealt_perm o es y few is = mathlib.Core.List.Permᴰ.trans (mathlib.Core.List.Permᴰ.symm (add_perm size join (λ e. e.extent) es y few)) (perm_same (ap flat (sym is) ∙ flat_rows o))
 
 -- ---- the plan is carried out
 
@@ -93,9 +93,9 @@ module _ {E : Type 0} (size : E → ℕ) (join : E → E → E) {places : List (
 -- ---- an inner node, whose child has grown into the rows rs, and whose entry for the child has a new extent
 
 module _ {E : Type 0} (size : E → ℕ) (join : E → E → E) {places : List (Entry E)} {counts : List ℕ} {h k at i : ℕ} {d : Entry E} (child : Child places counts h k at i d) (y : Entry E)
-    (picked : i ≡ choose size join (extents-in (row places counts at)) y.extent) {places₁ : List (Entry E)} {counts₁ : List ℕ} (ready₁ : Ready places₁ counts₁) (rs : List ℕ)
+    (picked : i ≡ choose size join (extents_in (row places counts at)) y.extent) {places₁ : List (Entry E)} {counts₁ : List ℕ} (ready₁ : Ready places₁ counts₁) (rs : List ℕ)
     (grew : Kept (row places counts) (row places₁ counts₁) k d.code rs) (memory₁ : Untouched places places₁ (flat_map (used (row places₁ counts₁) k) rs))
-    (x : E) (x-is : x ≡ bound size join y.extent (extents-in (row places₁ counts₁ d.code))) where
+    (x : E) (x-is : x ≡ bound size join y.extent (extents_in (row places₁ counts₁ d.code))) where
   abbrev f : ℕ → List (Entry E)
   f = row places counts
 
@@ -191,7 +191,7 @@ module _ {E : Type 0} (size : E → ℕ) (join : E → E → E) {places : List (
       })
 
   -- the child was split, and the entry for its new row was dealt out
-  pub inserted_two : (new : ℕ) (u : E) → rs ≡ d.code ∷ new ∷ [] → u ≡ bound size join y.extent (extents-in (f₁ new))
+  pub inserted_two : (new : ℕ) (u : E) → rs ≡ d.code ∷ new ∷ [] → u ≡ bound size join y.extent (extents_in (f₁ new))
       → Two (below f₁ k d.code) (below f₁ k new) ≡ insert size join k (below f k d.code) y.extent y.code → spare counts ≤ spare counts₁ + (k + 1)
       → (places₂ : List (Entry E)) (counts₂ : List ℕ) (o : Option ℕ) → Dealt places₃ counts₁ places₂ counts₂ size join at o (record { extent = u; code = new }) → Inserted places counts places₂ counts₂ size join h at o y
   inserted_two new u z u-is is few places₂ counts₂ o dealt =

@@ -13,11 +13,11 @@ use Rattle.quadratic.proofs.Perms.{perm_same, joined_append}
 use Rattle.guttman.specs.Trees.{Item, Tree, extents, bound}
 use Rattle.guttman.specs.Shape.{pairs}
 use Rattle.guttman.specs.Deletion.{Loose, loose_pairs}
-use Rattle.guttman.specs.Cutting.{without, first_some, Remains, is_pair, cut, cut_at, cut-inner, cut_leaf}
+use Rattle.guttman.specs.Cutting.{without, first_some, Remains, is_pair, cut, cut_at, cut_inner, cut_leaf}
 use Rattle.guttman.proofs.Leaving.{perm_without, without_is, without_map, first_some_found, first_some_missed}
 use Rattle.node_rows.specs.Rows.{row, below, under, used}
-use Rattle.node_rows.specs.Nodes.{seen, extents-in, Off, Distinct, Live, Ready, Untouched}
-use Rattle.node_rows.specs.Removal.{as-pair, before-pair, Freed, Gathered, Pruned, Taken-out, Dropped, Reduced, Stayed, Was-cut}
+use Rattle.node_rows.specs.Nodes.{seen, extents_in, Off, Distinct, Live, Ready, Untouched}
+use Rattle.node_rows.specs.Removal.{as_pair, before_pair, Freed, Gathered, Pruned, TakenOut, Dropped, Reduced, Stayed, WasCut}
 use Rattle.node_rows.proofs.RowSet.{row_set_here, row_set_other, set_untouched, row_count, get_or_row, count_row, count_short}
 use Rattle.node_rows.proofs.Separate.{all_unappend}
 use Rattle.node_rows.proofs.Frames.{same_seen, under_append}
@@ -39,7 +39,7 @@ module _ {E : Type 0} (places : List (Entry E)) (counts : List ℕ) (at i last :
   abbrev wrote : List (Entry E)
   wrote = set places (8 * at + i) x
 
-  pub taken_out : Taken-out places counts wrote (set counts at last) at i
+  pub taken_out : TakenOut places counts wrote (set counts at last) at i
   taken_out =
       let xs = row places counts at in
       let l = drop (8 * at) places in
@@ -69,30 +69,30 @@ leading_map p g (x ∷ xs) = ap (λ n. cond (p (g x)) (1 + n) 0) (leading_map p 
 
 module _ {E : Type 0} (size : E → ℕ) (join : E → E → E) (covering : E → E → Bool) (e : E) (c : ℕ) where
   abbrev first : List (Entry E) → ℕ
-  first es = before-pair covering e c es
+  first es = before_pair covering e c es
 
   module _ (places : List (Entry E)) (counts : List ℕ) (h r : ℕ) (z : h ≡ 0) where
-    leaf-cut : cut size join covering e c 0 (below (row places counts) 0 r) ≡ cut_leaf (below (row places counts) 0 r) (first (row places counts r))
-    leaf-cut = ap (cut_leaf (below (row places counts) 0 r)) (leading_map (λ p. not (is_pair covering e c p)) as-pair (row places counts r))
+    leaf_cut : cut size join covering e c 0 (below (row places counts) 0 r) ≡ cut_leaf (below (row places counts) 0 r) (first (row places counts r))
+    leaf_cut = ap (cut_leaf (below (row places counts) 0 r)) (leading_map (λ p. not (is_pair covering e c p)) as_pair (row places counts r))
 
-    pub cut-leaf-none : length (row places counts r) ≤ first (row places counts r) → cut size join covering e c h (below (row places counts) h r) ≡ None
-    cut-leaf-none l =
+    pub cut_leaf_none : length (row places counts r) ≤ first (row places counts r) → cut size join covering e c h (below (row places counts) h r) ≡ None
+    cut_leaf_none l =
         subst (λ m. cut size join covering e c m (below (row places counts) m r) ≡ None) (sym z)
-        (leaf-cut ∙ ap (λ b. cond b (Some (without (below (row places counts) 0 r) (first (row places counts r)), [])) None)
-        (le-ltb (first (row places counts r)) (length (below (row places counts) 0 r)) (let m = length-map (row places counts r) as-pair in omega arith)))
+        (leaf_cut ∙ ap (λ b. cond b (Some (without (below (row places counts) 0 r) (first (row places counts r)), [])) None)
+        (le-ltb (first (row places counts r)) (length (below (row places counts) 0 r)) (let m = length-map (row places counts r) as_pair in omega arith)))
 
-    pub was-cut-leaf : {places' : List (Entry E)} {counts' : List ℕ} (i : ℕ) (again : List (Entry E)) → i ≡ first (row places counts r) → i < length (row places counts r)
-        → Taken-out places counts places' counts' r i → Was-cut places counts places' counts' size join covering e c h r again 0
-    was-cut-leaf {places'} {counts'} i again i-is l taken =
+    pub was_cut_leaf : {places' : List (Entry E)} {counts' : List ℕ} (i : ℕ) (again : List (Entry E)) → i ≡ first (row places counts r) → i < length (row places counts r)
+        → TakenOut places counts places' counts' r i → WasCut places counts places' counts' size join covering e c h r again 0
+    was_cut_leaf {places'} {counts'} i again i-is l taken =
         let f = row places counts in
         let t = below f 0 r in
-        subst (λ m. Was-cut places counts places' counts' size join covering e c m r again 0) (sym z) (record {
+        subst (λ m. WasCut places counts places' counts' size join covering e c m r again 0) (sym z) (record {
           left = (without t i, []);
-          is = leaf-cut ∙ ap (cut_leaf t) (sym i-is)
-              ∙ ap (λ b. cond b (Some (without t i, [])) None) (lt-ltb i (length t) (let m = length-map (f r) as-pair in omega arith));
+          is = leaf_cut ∙ ap (cut_leaf t) (sym i-is)
+              ∙ ap (λ b. cond b (Some (without t i, [])) None) (lt-ltb i (length t) (let m = length-map (f r) as_pair in omega arith));
           out = record {
             ready = taken.ready;
-            is = ap (map as-pair) taken.here ∙ sym (without_map as-pair (f r) i);
+            is = ap (map as_pair) taken.here ∙ sym (without_map as_pair (f r) i);
             pruned = record { frame = λ q o. taken.others q o.0; fewer = λ q o. o; gone = λ q o. inl o; apart = (tt, tt) };
             live = tt;
             memory = taken.memory;
@@ -114,25 +114,25 @@ module _ {E : Type 0} (size : E → ℕ) (join : E → E → E) (covering : E �
     abbrev t : Tree E (suc k)
     t = below f (suc k) at
 
-    pub cut-inner-none : (h : ℕ) → h ≡ suc k → All (λ x. sought f k x ≡ None) (f at) → cut size join covering e c h (below f h at) ≡ None
-    cut-inner-none h z all =
+    pub cut_inner_none : (h : ℕ) → h ≡ suc k → All (λ x. sought f k x ≡ None) (f at) → cut size join covering e c h (below f h at) ≡ None
+    cut_inner_none h z all =
         subst (λ m. cut size join covering e c m (below f m at) ≡ None) (sym z)
-        (ap (cut-inner size join e k t) (first_some_missed here t (All-map (λ p. here p ≡ None) (seen f (suc k)) (f at) all)))
+        (ap (cut_inner size join e k t) (first_some_missed here t (All-map (λ p. here p ≡ None) (seen f (suc k)) (f at) all)))
 
-    cut-inner-some : (i : ℕ) (d : Entry E) (left : Remains E k) → i < length (f at) → get_or (f at) i d ≡ d → All (λ x. sought f k x ≡ None) (take i (f at)) → sought f k d ≡ Some left
+    cut_inner_some : (i : ℕ) (d : Entry E) (left : Remains E k) → i < length (f at) → get_or (f at) i d ≡ d → All (λ x. sought f k x ≡ None) (take i (f at)) → sought f k d ≡ Some left
         → cut size join covering e c (suc k) t ≡ Some (cut_at size join e k t i left)
-    cut-inner-some i d left l is before found =
+    cut_inner_some i d left l is before found =
         let φ = seen f (suc k) in
         let m = length-map (f at) φ in
         let read : (j : ℕ) → j < length (f at) → get_or t j (φ d) ≡ φ (get_or (f at) j d) = λ j s. get_or-map φ (f at) j d (φ d) s in
-        ap (cut-inner size join e k t) (first_some_found here t i (φ d) left (omega arith)
+        ap (cut_inner size join e k t) (first_some_found here t i (φ d) left (omega arith)
         (λ j s. ap here (read j (omega arith) ∙ ap φ (sym (get_or-take i (f at) j d s)))
         ∙ All-get_or (λ x. sought f k x ≡ None) (take i (f at)) j d (let n = length-take i (f at) in omega arith) before)
         (ap here (read i l ∙ ap φ is) ∙ found))
 
   module _ {places : List (Entry E)} {counts : List ℕ} {h k at i : ℕ} {d : Entry E} (child : Child places counts h k at i d) (covers : covering d.extent e ≡ true)
       (before : All (λ x. sought (row places counts) k x ≡ None) (take i (row places counts at)))
-      {places₁ : List (Entry E)} {counts₁ : List ℕ} {again₁ : List (Entry E)} {n₁ : ℕ} (w : Was-cut places counts places₁ counts₁ size join covering e c k d.code again₁ n₁) where
+      {places₁ : List (Entry E)} {counts₁ : List ℕ} {again₁ : List (Entry E)} {n₁ : ℕ} (w : WasCut places counts places₁ counts₁ size join covering e c k d.code again₁ n₁) where
     abbrev f : ℕ → List (Entry E)
     f = row places counts
 
@@ -142,17 +142,17 @@ module _ {E : Type 0} (size : E → ℕ) (join : E → E → E) (covering : E �
     abbrev node : Tree E k
     node = w.left.0
 
-    cut-is : cut size join covering e c (suc k) (below f (suc k) at) ≡ Some (cut_at size join e k (below f (suc k) at) i w.left)
-    cut-is =
-        cut-inner-some f k at i d w.left (child_in child) (child_is child) before
+    cut_is : cut size join covering e c (suc k) (below f (suc k) at) ≡ Some (cut_at size join e k (below f (suc k) at) i w.left)
+    cut_is =
+        cut_inner_some f k at i d w.left (child_in child) (child_is child) before
         (ap (λ b. cond b (cut size join covering e c k (below f k d.code)) None) covers ∙ w.is)
 
-    node-long : length node ≡ length (f₁ d.code)
-    node-long = ap length (sym w.out.is) ∙ length-map (f₁ d.code) (seen f₁ k)
+    node_long : length node ≡ length (f₁ d.code)
+    node_long = ap length (sym w.out.is) ∙ length-map (f₁ d.code) (seen f₁ k)
 
     -- the node of the entry is elsewhere than its own row
-    own-off : (P : ℕ → Type 0) → All P (used f (suc k) at) → All P (used f k d.code)
-    own-off P o = child_own child P o.1
+    own_off : (P : ℕ → Type 0) → All P (used f (suc k) at) → All P (used f k d.code)
+    own_off P o = child_own child P o.1
 
     at_off : Off at (used f k d.code)
     at_off = child_own child (λ q. at ≡ q → ⊥) (child_apart child).0
@@ -161,9 +161,9 @@ module _ {E : Type 0} (size : E → ℕ) (join : E → E → E) (covering : E �
     kept_at = w.out.pruned.frame at at_off
 
     -- the node is left with too few entries
-    pub was-cut-few : {places₃ : List (Entry E)} {counts₃ : List ℕ} {again₃ : List (Entry E)} {n₃ : ℕ} → length (f₁ d.code) < 3
-        → Dropped places₁ counts₁ places₃ counts₃ k d.code at i again₁ n₁ again₃ n₃ → Was-cut places counts places₃ counts₃ size join covering e c h at again₃ n₃
-    was-cut-few {places₃} {counts₃} {again₃} {n₃} few dropped =
+    pub was_cut_few : {places₃ : List (Entry E)} {counts₃ : List ℕ} {again₃ : List (Entry E)} {n₃ : ℕ} → length (f₁ d.code) < 3
+        → Dropped places₁ counts₁ places₃ counts₃ k d.code at i again₁ n₁ again₃ n₃ → WasCut places counts places₃ counts₃ size join covering e c h at again₃ n₃
+    was_cut_few {places₃} {counts₃} {again₃} {n₃} few dropped =
         let t = below f (suc k) at in
         let f₂ = row places₁ dropped.between in
         let f₃ = row places₃ counts₃ in
@@ -188,24 +188,24 @@ module _ {E : Type 0} (size : E → ℕ) (join : E → E → E) (covering : E �
         let loose : loose_pairs left.1 ≡ loose_pairs w.left.1 ++ pairs k node =
         joined_append (λ (o : Loose E). pairs o.0 o.1) w.left.1 ((k, node) ∷ []) ∙ ap (λ z. loose_pairs w.left.1 ++ z) (append-nil (pairs k node)) in
         let g = subst (λ s. Gathered again₁ n₁ again₃ n₃ (pairs k s)) out.is dropped.gathered in
-        subst (λ m. Was-cut places counts places₃ counts₃ size join covering e c m at again₃ n₃) (sym child.inner) (record {
+        subst (λ m. WasCut places counts places₃ counts₃ size join covering e c m at again₃ n₃) (sym child.inner) (record {
           left = left;
-          is = cut-is ∙ ap Some (ap (λ b. cond b left (set t i (bound size join e (extents node), node), w.left.1)) (lt-ltb (length node) 3 (let l = node-long in omega arith)));
+          is = cut_is ∙ ap Some (ap (λ b. cond b left (set t i (bound size join e (extents node), node), w.left.1)) (lt-ltb (length node) 3 (let l = node_long in omega arith)));
           out = record {
             ready = dropped.taken.ready;
             is = tree;
             pruned = pruned_inner f f₂ f₃ k at C d [] [] was (child_apart child) (child_live child) less tt refl laid other;
             live = pruned_live f f₂ f₃ k at C d [] [] was (child_apart child) (child_live child) less tt refl laid other;
-            memory = λ p x o. dropped.taken.memory p x (o.0, tt) ∙ out.memory p x (own-off (λ q. p / 8 ≡ q → ⊥) o);
+            memory = λ p x o. dropped.taken.memory p x (o.0, tt) ∙ out.memory p x (own_off (λ q. p / 8 ≡ q → ⊥) o);
           };
           listed = g.listed ∙ ap (λ z. z ++ pairs k node) w.listed ∙ sym loose;
           many = let a = g.counted in let b = w.many in let l = ap length loose ∙ length-append (loose_pairs w.left.1) (pairs k node) in omega arith;
         })
 
     -- the node stays
-    pub was-cut-many : {places₃ : List (Entry E)} {counts₃ : List ℕ} → 3 ≤ length (f₁ d.code) → Stayed places₁ counts₁ places₃ counts₃ size join d.code at i e
-        → Was-cut places counts places₃ counts₃ size join covering e c h at again₁ n₁
-    was-cut-many {places₃} {counts₃} many stayed =
+    pub was_cut_many : {places₃ : List (Entry E)} {counts₃ : List ℕ} → 3 ≤ length (f₁ d.code) → Stayed places₁ counts₁ places₃ counts₃ size join d.code at i e
+        → WasCut places counts places₃ counts₃ size join covering e c h at again₁ n₁
+    was_cut_many {places₃} {counts₃} many stayed =
         let A = take i (f at) in
         let B = drop (suc i) (f at) in
         let out = w.out in
@@ -224,7 +224,7 @@ module _ {E : Type 0} (size : E → ℕ) (join : E → E → E) (covering : E �
         let laid : Permᴰ (f₃ at) (d' ∷ (A ++ B)) = mathlib.Core.List.Permᴰ.trans (perm_same row_is) (mathlib.Core.List.Permᴰ.middle d' A B) in
         let nil = append-nil (used f₁ k d.code) in
         let less : Pruned f f₁ (used f k d.code) (flat_map (used f₁ k) (d.code ∷ [])) = subst (Pruned f f₁ (used f k d.code)) (sym nil) out.pruned in
-        let there : d.code < 256 = (child_own child (λ q. q < 256) (in-range (under f (suc k) (f at)) (child_live child))).0 in
+        let there : d.code < 256 = (child_own child (λ q. q < 256) (in_range (under f (suc k) (f at)) (child_live child))).0 in
         let lives : All (Live f₁) (flat_map (used f₁ k) (d.code ∷ [])) = subst (All (Live f₁)) (sym nil) ((there, omega arith), out.live) in
         let still = pruned_still f f₁ f₃ k at (A ++ B) d (d.code ∷ []) (d' ∷ []) (child_perm child) (child_apart child) (child_live child) less lives refl laid other in
         let same = pruned_d f f₁ f₃ k at (A ++ B) d (d.code ∷ []) (d' ∷ []) (child_perm child) (child_apart child) (child_live child) less lives refl laid other in
@@ -239,39 +239,39 @@ module _ {E : Type 0} (size : E → ℕ) (join : E → E → E) (covering : E �
         ap (map χ) row_is ∙ map-append χ A (d' ∷ B) ∙ ap (λ s. s ++ (χ d' ∷ map χ B)) (same_seen f f₃ (suc k) A ab.0).0
         ∙ ap (λ s. map φ A ++ (χ d' ∷ s)) (same_seen f f₃ (suc k) B ab.1).0 ∙ ap (λ s. map φ A ++ (s ∷ map φ B)) item-is
         ∙ sym (set_split t i z l ∙ ap (λ s. s ++ (z ∷ drop (suc i) t)) (take-map φ i (f at)) ∙ ap (λ s. map φ A ++ (z ∷ s)) (drop-map φ (suc i) (f at))) in
-        let result : Was-cut places counts wrote counts₁ size join covering e c (suc k) at again₁ n₁ = record {
+        let result : WasCut places counts wrote counts₁ size join covering e c (suc k) at again₁ n₁ = record {
           left = (set t i z, w.left.1);
-          is = cut-is ∙ ap Some (ap (λ b. cond b (without t i, w.left.1 ++ ((k, node) ∷ [])) (set t i z, w.left.1)) (le-ltb (length node) 3 (let s = node-long in omega arith)));
+          is = cut_is ∙ ap Some (ap (λ b. cond b (without t i, w.left.1 ++ ((k, node) ∷ [])) (set t i z, w.left.1)) (le-ltb (length node) 3 (let s = node_long in omega arith)));
           out = record {
             ready = record { long = let a = length-set places₁ (8 * at + i) d' in let b = out.ready.long in omega arith; wide = out.ready.wide; within = out.ready.within };
             is = tree;
             pruned = pruned_inner f f₁ f₃ k at (A ++ B) d (d.code ∷ []) (d' ∷ []) (child_perm child) (child_apart child) (child_live child) less lives refl laid other;
             live = pruned_live f f₁ f₃ k at (A ++ B) d (d.code ∷ []) (d' ∷ []) (child_perm child) (child_apart child) (child_live child) less lives refl laid other;
-            memory = λ p s o. set_untouched places₁ at i d' small p s (o.0, tt) ∙ out.memory p s (own-off (λ q. p / 8 ≡ q → ⊥) o);
+            memory = λ p s o. set_untouched places₁ at i d' small p s (o.0, tt) ∙ out.memory p s (own_off (λ q. p / 8 ≡ q → ⊥) o);
           };
           listed = w.listed;
           many = w.many;
         } in
-        subst (λ m. Was-cut places counts places₃ counts₃ size join covering e c m at again₁ n₁) (sym child.inner)
-        (subst (λ s. Was-cut places counts s counts₃ size join covering e c (suc k) at again₁ n₁) (sym stayed.stored)
-        (subst (λ s. Was-cut places counts wrote s size join covering e c (suc k) at again₁ n₁) (sym stayed.counted) result))
+        subst (λ m. WasCut places counts places₃ counts₃ size join covering e c m at again₁ n₁) (sym child.inner)
+        (subst (λ s. WasCut places counts s counts₃ size join covering e c (suc k) at again₁ n₁) (sym stayed.stored)
+        (subst (λ s. WasCut places counts wrote s size join covering e c (suc k) at again₁ n₁) (sym stayed.counted) result))
       where
-        in-range : (rs : List ℕ) → All (Live f) rs → All (λ q. q < 256) rs
-        in-range [] a = tt
-        in-range (q ∷ rs) a = (a.0.0, in-range rs a.1)
+        in_range : (rs : List ℕ) → All (Live f) rs → All (λ q. q < 256) rs
+        in_range [] a = tt
+        in_range (q ∷ rs) a = (a.0.0, in_range rs a.1)
 
 -- ---- the entries of a leaf, one after the other
 
 module _ {E : Type 0} (covering : E → E → Bool) (e : E) (c : ℕ) (es : List (Entry E)) (i : ℕ) where
   abbrev other : Entry E → Bool
-  other x = not (is_pair covering e c (as-pair x))
+  other x = not (is_pair covering e c (as_pair x))
 
-  module _ (d : Entry E) (inside : i < length es) (is : d ≡ get_or es i d) (so_far : before-pair covering e c es ≡ i + prefix_len other (drop i es)) where
-    pub before_more : false ≡ is_pair covering e c (as-pair d) → before-pair covering e c es ≡ (i + 1) + prefix_len other (drop (i + 1) es)
+  module _ (d : Entry E) (inside : i < length es) (is : d ≡ get_or es i d) (so_far : before_pair covering e c es ≡ i + prefix_len other (drop i es)) where
+    pub before_more : false ≡ is_pair covering e c (as_pair d) → before_pair covering e c es ≡ (i + 1) + prefix_len other (drop (i + 1) es)
     before_more z = let s = prefix_len-drop_yes other es i d inside (ap other (sym is) ∙ ap not (sym z)) in omega arith
 
-    pub before_here : true ≡ is_pair covering e c (as-pair d) → i ≡ before-pair covering e c es
+    pub before_here : true ≡ is_pair covering e c (as_pair d) → i ≡ before_pair covering e c es
     before_here z = let s = prefix_len-drop_no other es i d inside (ap other (sym is) ∙ ap not (sym z)) in omega arith
 
-  pub before_all : length es ≤ i → i ≤ length es → before-pair covering e c es ≡ i + prefix_len other (drop i es) → length es ≡ before-pair covering e c es
+  pub before_all : length es ≤ i → i ≤ length es → before_pair covering e c es ≡ i + prefix_len other (drop i es) → length es ≡ before_pair covering e c es
   before_all l m so_far = let s = prefix_len-drop_all other es i l in omega arith

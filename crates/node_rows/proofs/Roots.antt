@@ -6,7 +6,7 @@ use Rattle.std.proofs.ByRecursion.{All-weaker}
 use Rattle.extent.specs.declared.entry.Entry.{Entry}
 use Rattle.guttman.specs.Trees.{Tree, extents, bound, rooted}
 use Rattle.node_rows.specs.Rows.{row, below, under, used}
-use Rattle.node_rows.specs.Nodes.{extents-in, seen, Off, Distinct, Live, Inserted, Set-up, Added}
+use Rattle.node_rows.specs.Nodes.{extents_in, seen, Off, Distinct, Live, Inserted, SetUp, Added}
 use Rattle.node_rows.proofs.Frames.{same_seen}
 use Rattle.node_rows.proofs.RowSet.{count_row}
 use Rattle.node_rows.proofs.Refines.{bound_seen}
@@ -32,8 +32,8 @@ module _ {E : Type 0} (size : E → ℕ) (join : E → E → E) {places : List (
 
   -- the root was split, and a new one set up in a row that was not in use
   pub added_two : {places₂ : List (Entry E)} {counts₂ : List ℕ} (s top : ℕ) (u v : E) (first second : Entry E) → Inserted places counts places₁ counts₁ size join h r (Some s) y → top < 256 → get_or counts₁ top 0 ≡ 0
-      → u ≡ bound size join y.extent (extents-in (row places₁ counts₁ r)) → v ≡ bound size join y.extent (extents-in (row places₁ counts₁ s))
-      → first ≡ record { extent = u; code = r } → second ≡ record { extent = v; code = s } → Set-up places₁ counts₁ places₂ counts₂ top (first ∷ second ∷ []) → Added places counts places₂ counts₂ size join h r (h + 1) top y
+      → u ≡ bound size join y.extent (extents_in (row places₁ counts₁ r)) → v ≡ bound size join y.extent (extents_in (row places₁ counts₁ s))
+      → first ≡ record { extent = u; code = r } → second ≡ record { extent = v; code = s } → SetUp places₁ counts₁ places₂ counts₂ top (first ∷ second ∷ []) → Added places counts places₂ counts₂ size join h r (h + 1) top y
   added_two {places₂} {counts₂} s top u v first second i there free u-is v-is first-is second_is up =
       let f₁ = row places₁ counts₁ in
       let f₂ = row places₂ counts₂ in

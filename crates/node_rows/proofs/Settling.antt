@@ -8,14 +8,14 @@ use Rattle.extent.specs.declared.entry.Entry.{Entry}
 use Rattle.guttman.specs.Trees.{Tree}
 use Rattle.guttman.specs.Shape.{Sized, Filled, Shaped, pairs}
 use Rattle.guttman.specs.Laws.{Joining}
-use Rattle.guttman.specs.Deletion.{loose_pairs, Cut-out}
+use Rattle.guttman.specs.Deletion.{loose_pairs, CutOut}
 use Rattle.guttman.proofs.Lists.{perm_length}
 use Rattle.guttman.proofs.Losing.{cut_pairs}
 use Rattle.guttman.proofs.Remaining.{cut_shaped}
 use Rattle.guttman.proofs.Cutting.{cut_cuts}
 use Rattle.node_rows.specs.Rows.{row, below, used}
 use Rattle.node_rows.specs.Nodes.{seen, Off, Ready, Placed}
-use Rattle.node_rows.specs.Removal.{Was-cut}
+use Rattle.node_rows.specs.Removal.{WasCut}
 use Rattle.node_rows.proofs.RowSet.{count_short}
 use Rattle.node_rows.proofs.Children.{Child, child_in, child_is, child_apart, child_own, child_placed}
 use Rattle.node_rows.proofs.Gathering.{pairs_room}
@@ -43,17 +43,17 @@ module _ {E : Type 0} {places : List (Entry E)} {counts : List ℕ} {h k at i : 
 module _ {E : Type 0} (size : E → ℕ) (join : E → E → E) (covering : E → E → Bool) (laws : Joining join covering)
     (antisymmetric : (a b : E) → covering a b ≡ true → covering b a ≡ true → a ≡ b) (e : E) (c : ℕ)
     {places : List (Entry E)} {counts : List ℕ} {places₁ : List (Entry E)} {counts₁ : List ℕ} {k r : ℕ} {again : List (Entry E)} {n : ℕ}
-    (w : Was-cut places counts places₁ counts₁ size join covering e c k r again n) where
+    (w : WasCut places counts places₁ counts₁ size join covering e c k r again n) where
   abbrev was : Tree E k
   was = below (row places counts) k r
 
-  abbrev is-now : Tree E k
-  is-now = below (row places₁ counts₁) k r
+  abbrev is_now : Tree E k
+  is_now = below (row places₁ counts₁) k r
 
-  pub was_cut_cut : Cut-out covering e c k was w.left.0 w.left.1
+  pub was_cut_cut : CutOut covering e c k was w.left.0 w.left.1
   was_cut_cut = cut_cuts size join covering laws antisymmetric e c k was w.left w.is
 
-  pub was_cut_pairs : n + length (pairs k is-now) + 1 ≡ length (pairs k was)
+  pub was_cut_pairs : n + length (pairs k is_now) + 1 ≡ length (pairs k was)
   was_cut_pairs =
       let s = w.left.0 in
       let o = w.left.1 in
@@ -73,7 +73,7 @@ module _ {E : Type 0} (size : E → ℕ) (join : E → E → E) (covering : E �
 -- ---- before the entry is settled
 
 module _ {E : Type 0} (size : E → ℕ) (join : E → E → E) (covering : E → E → Bool) (e : E) (c : ℕ) {places : List (Entry E)} {counts : List ℕ} {h k at i : ℕ} {d : Entry E} (child : Child places counts h k at i d)
-    {places₁ : List (Entry E)} {counts₁ : List ℕ} {again : List (Entry E)} {n : ℕ} (w : Was-cut places counts places₁ counts₁ size join covering e c k d.code again n) where
+    {places₁ : List (Entry E)} {counts₁ : List ℕ} {again : List (Entry E)} {n : ℕ} (w : WasCut places counts places₁ counts₁ size join covering e c k d.code again n) where
   abbrev f₀ : ℕ → List (Entry E)
   f₀ = row places counts
 

@@ -14,7 +14,7 @@ use Rattle.guttman.specs.Shape.{Filled, Shaped, Tight, least_root, slack_root, p
 use Rattle.guttman.specs.Laws.{Joining}
 use Rattle.guttman.proofs.Counting.{nodes_slack_pairs, six_deep}
 use Rattle.guttman.proofs.Gaining.{inserted_pairs}
-use Rattle.guttman.proofs.Shaping.{low_some, inserted-shaped}
+use Rattle.guttman.proofs.Shaping.{low_some, inserted_shaped}
 use Rattle.guttman.proofs.Tightening.{inserted_tight}
 use Rattle.node_rows.specs.Rows.{row, below, under, used}
 use Rattle.node_rows.specs.Nodes.{Off, Distinct, Live, Ready, Placed, Standing, Added, spare}
@@ -127,7 +127,7 @@ module _ {E : Type 0} (size : E → ℕ) (join : E → E → E) (low : ℕ → �
   pub standing_added : n < 256 → Standing low (row places' counts') h' r' (n + 1)
   standing_added room = record {
     placed = record { there = added.live.0.0; full = λ _. added.live.0.1; live = added.live.1; apart = added.apart };
-    shape = subst (λ (z : (k : ℕ) × Tree E k). Shaped (low z.0) z.0 z.1) (sym added.is) (inserted-shaped size join low some two h t y.extent y.code before.shape);
+    shape = subst (λ (z : (k : ℕ) × Tree E k). Shaped (low z.0) z.0 z.1) (sym added.is) (inserted_shaped size join low some two h t y.extent y.code before.shape);
     count = let p = perm_length added_pairs in let c = before.count in omega arith;
     few = omega arith;
     clear = λ q o. ap length (added.rest q o) ∙ before.clear q (added.more q o);

@@ -9,10 +9,10 @@ use Rattle.guttman.specs.Laws.{Joining}
 use Rattle.guttman.specs.Cutting.{cut}
 use Rattle.node_rows.specs.Rows.{row, below, used}
 use Rattle.node_rows.specs.Nodes.{Off, Ready, Placed}
-use Rattle.node_rows.specs.Removal.{Dropped, Stayed, Was-cut}
+use Rattle.node_rows.specs.Removal.{Dropped, Stayed, WasCut}
 use Rattle.node_rows.proofs.RowSet.{count_row}
 use Rattle.node_rows.proofs.Children.{Child, child_in, child_is, child_placed}
-use Rattle.node_rows.proofs.Removing.{sought, cut-inner-none, was-cut-few, was-cut-many}
+use Rattle.node_rows.proofs.Removing.{sought, cut_inner_none, was_cut_few, was_cut_many}
 use Rattle.node_rows.proofs.Settling.{child_filled, child_pairs, was_cut_pairs, was_cut_long, settle_inside, settle_off, settle_placed}
 
 module _ {E : Type 0} (size : E → ℕ) (join : E → E → E) (covering : E → E → Bool) (e : E) (c : ℕ) {places : List (Entry E)} {counts : List ℕ} {h at : ℕ}
@@ -30,74 +30,74 @@ module _ {E : Type 0} (size : E → ℕ) (join : E → E → E) (covering : E �
   pub missed_all : (i : ℕ) → get_or counts at 0 ≤ i → Missed i → cut size join covering e c h (below f h at) ≡ None
   missed_all i l missed =
       let n = count_row places counts ready at placed.there in
-      cut-inner-none size join covering e c f k at h (omega arith) (subst (All (λ x. sought size join covering e c f k x ≡ None)) (take_all i (f at) (omega arith)) missed)
+      cut_inner_none size join covering e c f k at h (omega arith) (subst (All (λ x. sought size join covering e c f k x ≡ None)) (take_all i (f at) (omega arith)) missed)
 
   -- the rows as they are at this turn, `now-places` and `now-counts`, are as they were
   module _ {now-places : List (Entry E)} {now-counts : List ℕ} (same : now-places ≡ places) (same-counts : now-counts ≡ counts) {i : ℕ} {d : Entry E}
       (inside : i < get_or counts at 0) (read : d ≡ get_or now-places (8 * at + i) d) where
-    pub turn-child : Child places counts h k at i d
-    turn-child = record { inner = omega arith; within = inside; read = read ∙ ap (λ z. get_or z (8 * at + i) d) same; ready = ready; placed = placed }
+    pub turn_child : Child places counts h k at i d
+    turn_child = record { inner = omega arith; within = inside; read = read ∙ ap (λ z. get_or z (8 * at + i) d) same; ready = ready; placed = placed }
 
     abbrev g : ℕ → List (Entry E)
     g = row now-places now-counts
 
-    pub turn-ready : Ready now-places now-counts
-    turn-ready = subst₂ Ready (sym same) (sym same-counts) ready
+    pub turn_ready : Ready now-places now-counts
+    turn_ready = subst₂ Ready (sym same) (sym same-counts) ready
 
-    pub turn-placed : Placed g k d.code
-    turn-placed = subst₂ (λ p q. Placed (row p q) k d.code) (sym same) (sym same-counts) (child_placed turn-child)
+    pub turn_placed : Placed g k d.code
+    turn_placed = subst₂ (λ p q. Placed (row p q) k d.code) (sym same) (sym same-counts) (child_placed turn_child)
 
-    pub turn-filled : All (Filled h) (below f h at) → All (Filled k) (below g k d.code)
-    turn-filled all = subst₂ (λ p q. All (Filled k) (below (row p q) k d.code)) (sym same) (sym same-counts) (child_filled turn-child all).1
+    pub turn_filled : All (Filled h) (below f h at) → All (Filled k) (below g k d.code)
+    turn_filled all = subst₂ (λ p q. All (Filled k) (below (row p q) k d.code)) (sym same) (sym same-counts) (child_filled turn_child all).1
 
-    pub turn-pairs : length (pairs k (below g k d.code)) ≤ length (pairs h (below f h at))
-    turn-pairs = subst₂ (λ p q. length (pairs k (below (row p q) k d.code)) ≤ length (pairs h (below f h at))) (sym same) (sym same-counts) (child_pairs turn-child)
+    pub turn_pairs : length (pairs k (below g k d.code)) ≤ length (pairs h (below f h at))
+    turn_pairs = subst₂ (λ p q. length (pairs k (below (row p q) k d.code)) ≤ length (pairs h (below f h at))) (sym same) (sym same-counts) (child_pairs turn_child)
 
     -- nothing is found below the entry either
     missed_more : Missed i → sought size join covering e c f k d ≡ None → Missed (i + 1)
     missed_more missed none =
         let P : Entry E → Type 0 = λ x. sought size join covering e c f k x ≡ None in
-        All-more P (f at) i d (child_in turn-child) missed (subst P (sym (child_is turn-child)) none)
+        All-more P (f at) i d (child_in turn_child) missed (subst P (sym (child_is turn_child)) none)
 
-    pub missed-apart : Missed i → covering d.extent e ≡ false → Missed (i + 1)
-    missed-apart missed z = missed_more missed (ap (λ b. cond b (cut size join covering e c k (below f k d.code)) None) z)
+    pub missed_apart : Missed i → covering d.extent e ≡ false → Missed (i + 1)
+    missed_apart missed z = missed_more missed (ap (λ b. cond b (cut size join covering e c k (below f k d.code)) None) z)
 
-    pub missed-below : Missed i → covering d.extent e ≡ true → cut size join covering e c k (below g k d.code) ≡ None → Missed (i + 1)
-    missed-below missed z none =
+    pub missed_below : Missed i → covering d.extent e ≡ true → cut size join covering e c k (below g k d.code) ≡ None → Missed (i + 1)
+    missed_below missed z none =
         missed_more missed (ap (λ b. cond b (cut size join covering e c k (below f k d.code)) None) z
         ∙ subst₂ (λ p q. cut size join covering e c k (below (row p q) k d.code) ≡ None) same same-counts none)
 
     -- the pair was cut out below the entry
-    module _ {places₁ : List (Entry E)} {counts₁ : List ℕ} {again₁ : List (Entry E)} {n₁ : ℕ} (found : Was-cut now-places now-counts places₁ counts₁ size join covering e c k d.code again₁ n₁) where
+    module _ {places₁ : List (Entry E)} {counts₁ : List ℕ} {again₁ : List (Entry E)} {n₁ : ℕ} (found : WasCut now-places now-counts places₁ counts₁ size join covering e c k d.code again₁ n₁) where
       abbrev f₁ : ℕ → List (Entry E)
       f₁ = row places₁ counts₁
 
-      w : Was-cut places counts places₁ counts₁ size join covering e c k d.code again₁ n₁
-      w = subst₂ (λ p q. Was-cut p q places₁ counts₁ size join covering e c k d.code again₁ n₁) same same-counts found
+      w : WasCut places counts places₁ counts₁ size join covering e c k d.code again₁ n₁
+      w = subst₂ (λ p q. WasCut p q places₁ counts₁ size join covering e c k d.code again₁ n₁) same same-counts found
 
       pub turn_inside : i < get_or counts₁ at 0
-      turn_inside = settle_inside size join covering e c turn-child w
+      turn_inside = settle_inside size join covering e c turn_child w
 
-      pub turn-off : Off at (used f₁ k d.code)
-      turn-off = settle_off size join covering e c turn-child w
+      pub turn_off : Off at (used f₁ k d.code)
+      turn_off = settle_off size join covering e c turn_child w
 
       module _ (laws : Joining join covering) (antisymmetric : (a b : E) → covering a b ≡ true → covering b a ≡ true → a ≡ b) (filled : All (Filled h) (below f h at)) where
-        pub turn-left : Placed f₁ k d.code
-        turn-left = settle_placed size join covering e c turn-child w (let a = was_cut_long size join covering laws antisymmetric e c w 3 (child_filled turn-child filled) in omega arith)
+        pub turn_left : Placed f₁ k d.code
+        turn_left = settle_placed size join covering e c turn_child w (let a = was_cut_long size join covering laws antisymmetric e c w 3 (child_filled turn_child filled) in omega arith)
 
-        pub turn-room : (m : ℕ) → length (pairs h (below f h at)) ≤ m → n₁ + length (pairs k (below f₁ k d.code)) ≤ m
-        turn-room m few = let a = was_cut_pairs size join covering laws antisymmetric e c w in let b = child_pairs turn-child in omega arith
+        pub turn_room : (m : ℕ) → length (pairs h (below f h at)) ≤ m → n₁ + length (pairs k (below f₁ k d.code)) ≤ m
+        turn_room m few = let a = was_cut_pairs size join covering laws antisymmetric e c w in let b = child_pairs turn_child in omega arith
 
-      pub turn-found : {places₃ : List (Entry E)} {counts₃ : List ℕ} {again₃ : List (Entry E)} {n₃ : ℕ} → Missed i → covering d.extent e ≡ true
+      pub turn_found : {places₃ : List (Entry E)} {counts₃ : List ℕ} {again₃ : List (Entry E)} {n₃ : ℕ} → Missed i → covering d.extent e ≡ true
           → (get_or counts₁ d.code 0 < 3 → Dropped places₁ counts₁ places₃ counts₃ k d.code at i again₁ n₁ again₃ n₃)
           → (3 ≤ get_or counts₁ d.code 0 → ((x : E) → Stayed places₁ counts₁ places₃ counts₃ size join d.code at i x) × (again₃ ≡ again₁) × (n₃ ≡ n₁))
-          → Was-cut places counts places₃ counts₃ size join covering e c h at again₃ n₃
-      turn-found {places₃} {counts₃} {again₃} {n₃} missed covers few enough =
-          let l = count_row places₁ counts₁ w.out.ready d.code (child_placed turn-child).there in
+          → WasCut places counts places₃ counts₃ size join covering e c h at again₃ n₃
+      turn_found {places₃} {counts₃} {again₃} {n₃} missed covers few enough =
+          let l = count_row places₁ counts₁ w.out.ready d.code (child_placed turn_child).there in
           elim (cases_lt (get_or counts₁ d.code 0) 3) [
-            | inl s ↦ was-cut-few size join covering e c turn-child covers missed w (omega arith) (few s)
+            | inl s ↦ was_cut_few size join covering e c turn_child covers missed w (omega arith) (few s)
             | inr s ↦
                 let a = enough s in
-                subst₂ (Was-cut places counts places₃ counts₃ size join covering e c h at) (sym a.1) (sym a.2)
-                (was-cut-many size join covering e c turn-child covers missed w (omega arith) (a.0 e))
+                subst₂ (WasCut places counts places₃ counts₃ size join covering e c h at) (sym a.1) (sym a.2)
+                (was_cut_many size join covering e c turn_child covers missed w (omega arith) (a.0 e))
           ]

@@ -31,8 +31,8 @@ halves r None = r ∷ []
 halves r (Some s) = r ∷ s ∷ []
 
 module _ {E : Type 0} where
-  abbrev pub extents-in : List (Entry E) → List E
-  extents-in es = map (λ e. e.extent) es
+  abbrev pub extents_in : List (Entry E) → List E
+  extents_in es = map (λ e. e.extent) es
 
   -- an entry of a node of height h, as it is read out
   abbrev pub seen : (ℕ → List (Entry E)) → (h : ℕ) → Entry E → E × Item E h
@@ -58,9 +58,9 @@ module _ {E : Type 0} where
   rows_of f r (Some s) = Two (f r) (f s)
 
   -- the tree at a row, and at the new one if it was split
-  abbrev pub trees-of : (ℕ → List (Entry E)) → (h : ℕ) → ℕ → Option ℕ → Grown (Tree E h)
-  trees-of f h r None = One (below f h r)
-  trees-of f h r (Some s) = Two (below f h r) (below f h s)
+  abbrev pub trees_of : (ℕ → List (Entry E)) → (h : ℕ) → ℕ → Option ℕ → Grown (Tree E h)
+  trees_of f h r None = One (below f h r)
+  trees_of f h r (Some s) = Two (below f h r) (below f h s)
 
   -- the rows of a tree are there, distinct, and in use, but that a lone leaf may be empty
   pub record Placed (f : ℕ → List (Entry E)) (h r : ℕ) : Type 0 where
@@ -114,7 +114,7 @@ module _ {E : Type 0} (places : List (Entry E)) (counts : List ℕ) (places' : L
     pub memory : Untouched places places' (at ∷ to ∷ [])
 
   -- a row that was not in use has these entries; no other row changed
-  pub record Set-up (at : ℕ) (es : List (Entry E)) : Type 0 where
+  pub record SetUp (at : ℕ) (es : List (Entry E)) : Type 0 where
     pub ready : Ready places' counts'
     pub spares : spare counts ≤ spare counts' + 1
     pub here : row places' counts' at ≡ es
@@ -137,7 +137,7 @@ module _ {E : Type 0} (places : List (Entry E)) (counts : List ℕ) (places' : L
     pub record Inserted (h r : ℕ) (o : Option ℕ) (y : Entry E) : Type 0 where
       pub ready : Ready places' counts'
       pub spares : spare counts ≤ spare counts' + (h + 1)
-      pub is : trees-of (row places' counts') h r o ≡ insert size join h (below (row places counts) h r) y.extent y.code
+      pub is : trees_of (row places' counts') h r o ≡ insert size join h (below (row places counts) h r) y.extent y.code
       pub kept : Kept (row places counts) (row places' counts') h r (halves r o)
       pub memory : Untouched places places' (flat_map (used (row places' counts') h) (halves r o))
 

@@ -11,8 +11,8 @@ module _ {E : Type 0} where
   codes ps = map (λ p. p.1) ps
 
   -- the codes that the walk comes to from row r on, at a node of height h
-  abbrev pub codes-below : (E → Bool) → List (Entry E) → List ℕ → (h r : ℕ) → List ℕ
-  codes-below test places counts h r = codes (reached test h (below (row places counts) h r))
+  abbrev pub codes_below : (E → Bool) → List (Entry E) → List ℕ → (h r : ℕ) → List ℕ
+  codes_below test places counts h r = codes (reached test h (below (row places counts) h r))
 
   -- the pairs ps are found: n is their count, and of the list l the first n entries become their codes, and the later ones remain
   pub record Finds (ps : List (E × ℕ)) (l : List ℕ) (n : ℕ) (m : List ℕ) : Type 0 where

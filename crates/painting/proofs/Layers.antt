@@ -39,18 +39,18 @@ over_none d n p e = record { sides = same_again p; taken = λ x y o. sym (ap (λ
 -- and settled, it is the painting
 pub painted : (d : Drawing) (n : ℕ) (o p q r : Picture) → n ≡ 256 → Laid (λ u v. true) 0 o p → Layered d n p q → Settled q r → Lawful r → Painted d o r
 painted d n o p q r e first s t law = record {
-  sides = sides_then o q r to-q t.sides;
-  taken = take-ink;
-  shown = λ x y h. show x y h ∙ take-ink x y h;
-  calm = λ x y h. t.calm x y (on_again o q x y to-q h);
-  words = λ x y h. subst (Fresh d x y) (sym (show x y h ∙ take-ink x y h)) (painting_in_words d x y);
+  sides = sides_then o q r to_q t.sides;
+  taken = take_ink;
+  shown = λ x y h. show x y h ∙ take_ink x y h;
+  calm = λ x y h. t.calm x y (on_again o q x y to_q h);
+  words = λ x y h. subst (Fresh d x y) (sym (show x y h ∙ take_ink x y h)) (painting_in_words d x y);
 }
   where
-    to-q : SameSides o q
-    to-q = sides_then o p q first.sides s.sides
+    to_q : SameSides o q
+    to_q = sides_then o p q first.sides s.sides
 
-    take-ink : (x y : ℕ) → On o x y → r.taken x y ≡ painting d x y
-    take-ink x y h = t.taken x y (on_again o q x y to-q h) ∙ s.taken x y (on_again o p x y first.sides h) ∙ ap (topmost (λ m. shape_ink d x y (d.shapes m) m) 0) e
+    take_ink : (x y : ℕ) → On o x y → r.taken x y ≡ painting d x y
+    take_ink x y h = t.taken x y (on_again o q x y to_q h) ∙ s.taken x y (on_again o p x y first.sides h) ∙ ap (topmost (λ m. shape_ink d x y (d.shapes m) m) 0) e
 
     show : (x y : ℕ) → On o x y → r.shown x y ≡ r.taken x y
-    show x y h = law.still x y (on_again o r x y (sides_then o q r to-q t.sides) h) (t.calm x y (on_again o q x y to-q h))
+    show x y h = law.still x y (on_again o r x y (sides_then o q r to_q t.sides) h) (t.calm x y (on_again o q x y to_q h))

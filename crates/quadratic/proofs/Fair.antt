@@ -6,7 +6,7 @@ use Rattle.std.proofs.lemmas.List.{get_or-replicate}
 use Rattle.std.proofs.lemmas.Bool.{both_ways, eq-eqb}
 use Rattle.quadratic.specs.Choosing.{NextOf}
 use Rattle.quadratic.specs.Sharing.{tally, Lettered, SharedOut}
-use Rattle.quadratic.specs.Split.{Groups, remaining, seeds, started, next, goes-to-a, given, shared-one, shared, split9, sizes, join-sizes, growths}
+use Rattle.quadratic.specs.Split.{Groups, remaining, seeds, started, next, goes_to_a, given, shared_one, shared, split9, sizes, join_sizes_lem, growths}
 use Rattle.quadratic.proofs.Chosen.{letter_all_a, letter_all_b, next_is, seeds_are}
 use Rattle.quadratic.proofs.Tally.{tally_set, tally_some}
 
@@ -96,7 +96,7 @@ lettered (l ∷ ls) h e =
 module _ {E : Type 0} (size : E → ℕ) (join : E → E → E) (x : ℕ → E) where
   pub seeds_pair : ((seeds size join x).0 < (seeds size join x).1) × ((seeds size join x).1 < 9)
   unfolding seeds
-  seeds_pair = let p = (seeds_are (sizes size join x) (join-sizes size join x) 79).pair in (p.order, p.nine)
+  seeds_pair = let p = (seeds_are (sizes size join x) (join_sizes_lem size join x) 79).pair in (p.order, p.nine)
 
   -- while one has no letter, some entry goes next
   pub next_free : (g : Groups E) → length g.letters ≡ 9 → 0 < tally 0 g.letters → (i : ℕ) × (next size join x g ≡ Some i) × (i < 9) × (get_or g.letters i 0 ≡ 0)
@@ -118,23 +118,23 @@ module _ {E : Type 0} (size : E → ℕ) (join : E → E → E) (x : ℕ → E) 
   fair_given g i f l z false a b = fair_b g.letters i f.nine l z g.na g.nb f (b refl)
 
   -- where all that remain go to one group, the next entry does
-  pub all_to_a : (g : Groups E) (i : ℕ) → g.na + remaining g.na g.nb ≡ 3 → goes-to-a size join x g i ≡ true
-  unfolding goes-to-a
+  pub all_to_a : (g : Groups E) (i : ℕ) → g.na + remaining g.na g.nb ≡ 3 → goes_to_a size join x g i ≡ true
+  unfolding goes_to_a
   all_to_a g i e = eq-eqb _ 65 (letter_all_a _ _ _ _ g.na g.nb e)
 
-  pub all_to_b : (g : Groups E) (i : ℕ) → g.na + g.nb ≤ 9 → g.nb + remaining g.na g.nb ≡ 3 → goes-to-a size join x g i ≡ false
-  unfolding goes-to-a
+  pub all_to_b : (g : Groups E) (i : ℕ) → g.na + g.nb ≤ 9 → g.nb + remaining g.na g.nb ≡ 3 → goes_to_a size join x g i ≡ false
+  unfolding goes_to_a
   all_to_b g i h e = ap (λ l. eqb l 65) (letter_all_b _ _ _ _ g.na g.nb (λ z. omega arith) e)
 
-  pub fair_next : (g : Groups E) → Good g → 0 < remaining g.na g.nb → Good (shared-one size join x g (next size join x g))
-  unfolding shared-one
+  pub fair_next : (g : Groups E) → Good g → 0 < remaining g.na g.nb → Good (shared_one size join x g (next size join x g))
+  unfolding shared_one
   fair_next g f some =
       let z = f.in_none in
       let m = f.most in
       let n = next_free g f.nine (omega arith) in
       let i = n.0 in
-      let t = goes-to-a size join x g i in
-      subst (λ o. Good (shared-one size join x g o)) (sym n.1)
+      let t = goes_to_a size join x g i in
+      subst (λ o. Good (shared_one size join x g o)) (sym n.1)
       (fair_given g i f n.2 n.3 t
       (λ e h. both_ways t (all_to_b g i m h) e)
       (λ e h. both_ways t e (all_to_a g i h)))
@@ -146,12 +146,12 @@ module _ {E : Type 0} (size : E → ℕ) (join : E → E → E) (x : ℕ → E) 
 
   -- each turn shares one out
   pub counts_next : (g : Groups E) → Good g → 0 < remaining g.na g.nb
-      → (shared-one size join x g (next size join x g)).na + (shared-one size join x g (next size join x g)).nb ≡ (g.na + g.nb) + 1
-  unfolding shared-one
+      → (shared_one size join x g (next size join x g)).na + (shared_one size join x g (next size join x g)).nb ≡ (g.na + g.nb) + 1
+  unfolding shared_one
   counts_next g f some =
       let z = f.in_none in
       let n = next_free g f.nine (omega arith) in
-      subst (λ o. (shared-one size join x g o).na + (shared-one size join x g o).nb ≡ (g.na + g.nb) + 1) (sym n.1) (counts_given g n.0 (goes-to-a size join x g n.0))
+      subst (λ o. (shared_one size join x g o).na + (shared_one size join x g o).nb ≡ (g.na + g.nb) + 1) (sym n.1) (counts_given g n.0 (goes_to_a size join x g n.0))
 
   pub shared_fair : (n : ℕ) → n ≤ 7 → Good (shared size join x n) × ((shared size join x n).na + (shared size join x n).nb ≡ 2 + n)
   unfolding shared started

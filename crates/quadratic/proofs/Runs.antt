@@ -2,7 +2,7 @@
 use Rattle.std.proofs.Common.{◌≡◌, ℕ, zero, suc, ◌+◌, ◌-◌, ◌<◌, cond, eqb, List, [], ◌∷◌, get_or, set, sym, refl, ap, ◌∙◌, subst, inl, inr, arith}
 use Rattle.std.proofs.lemmas.Bool.{cases_eq, eq-eqb, ne_eqb}
 use Rattle.quadratic.specs.Sharing.{tally, filled, RestToOne, ByTheRule}
-use Rattle.quadratic.specs.Split.{remaining, sizes, join-sizes, growths, seeds, goes-to-a, given, next, shared-one, shared, split9}
+use Rattle.quadratic.specs.Split.{remaining, sizes, join_sizes_lem, growths, seeds, goes_to_a, given, next, shared_one, shared, split9}
 use Rattle.quadratic.proofs.Chosen.{next_is, seeds_are}
 use Rattle.quadratic.proofs.Fair.{next_free, all_to_a, all_to_b, shared_fair}
 
@@ -30,15 +30,15 @@ module _ {E : Type 0} (size : E → ℕ) (join : E → E → E) (x : ℕ → E) 
       ap (λ j. (shared size join x j).letters) (sym e) ∙ sym (filled_none v (shared size join x n).letters (omega arith))
 
   -- entry i gets its letter by the turn after n others
-  one_turn : (n : ℕ) → n < 7 → (i : ℕ) × (shared size join x (suc n) ≡ given size join x (shared size join x n) i (goes-to-a size join x (shared size join x n) i)) × (get_or (shared size join x n).letters i 0 ≡ 0)
-  unfolding shared shared-one
+  one_turn : (n : ℕ) → n < 7 → (i : ℕ) × (shared size join x (suc n) ≡ given size join x (shared size join x n) i (goes_to_a size join x (shared size join x n) i)) × (get_or (shared size join x n).letters i 0 ≡ 0)
+  unfolding shared shared_one
   one_turn n l =
       let g = shared size join x n in
       let f = shared_fair size join x n (omega arith) in
       let z = f.0.in_none in
       let s = f.1 in
       let k = next_free size join x g f.0.nine (omega arith) in
-      (k.0, ap (shared-one size join x g) k.1, k.3)
+      (k.0, ap (shared_one size join x g) k.1, k.3)
 
   stays_a : (n : ℕ) → n < 7 → (shared size join x n).na + remaining (shared size join x n).na (shared size join x n).nb ≡ 3
       → (filled 65 (shared size join x (suc n)).letters ≡ filled 65 (shared size join x n).letters) × ((shared size join x (suc n)).na + remaining (shared size join x (suc n)).na (shared size join x (suc n)).nb ≡ 3)
@@ -83,6 +83,6 @@ module _ {E : Type 0} (size : E → ℕ) (join : E → E → E) (x : ℕ → E) 
   pub by_the_rule : ByTheRule size join x
   unfolding seeds next
   by_the_rule = record {
-    worst_pair = seeds_are (sizes size join x) (join-sizes size join x) 79;
+    worst_pair = seeds_are (sizes size join x) (join_sizes_lem size join x) 79;
     goes_next = λ n l. next_is (growths size join x (shared size join x n).a) (growths size join x (shared size join x n).b) (shared size join x n).letters 9;
   }

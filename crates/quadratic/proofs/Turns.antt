@@ -1,20 +1,20 @@
 -- One turn of the sharing out, from the numbers that it goes by. Assumes nothing.
 use Rattle.std.proofs.Common.{◌≡◌, ℕ, ◌+◌, eqb, List, set, Option, sym, ap, ◌∙◌, add-one, arith}
 use Rattle.std.proofs.lemmas.Bool.{eq-eqb, ne_eqb}
-use Rattle.quadratic.specs.Split.{Groups, letter_for, sizes, join-sizes, growth, growths, seeds_before, seeds, started, next_before, next, goes-to-a, given, shared-one, shared}
+use Rattle.quadratic.specs.Split.{Groups, letter_for, sizes, join_sizes_lem, growth, growths, seeds_before, seeds, started, next_before, next, goes_to_a, given, shared_one, shared}
 
 module _ {E : Type 0} (size : E → ℕ) (join : E → E → E) where
   pub goes_next : (x : ℕ → E) (g : Groups E) (o : Option ℕ) (ga gb : List ℕ) → ga ≡ growths size join x g.a → gb ≡ growths size join x g.b → o ≡ next_before ga gb g.letters 9 → o ≡ next size join x g
   unfolding next
   goes_next x g o ga gb a b h = cc
 
-  pub shared_none : (x : ℕ → E) (ss js : List ℕ) (p : ℕ × ℕ) (g : Groups E) → ss ≡ sizes size join x → js ≡ join-sizes size join x → p ≡ seeds_before ss js 81 → g ≡ started size join x p → g ≡ shared size join x 0
+  pub shared_none : (x : ℕ → E) (ss js : List ℕ) (p : ℕ × ℕ) (g : Groups E) → ss ≡ sizes size join x → js ≡ join_sizes_lem size join x → p ≡ seeds_before ss js 81 → g ≡ started size join x p → g ≡ shared size join x 0
   unfolding shared seeds
   shared_none x ss js p g a b c d = cc
 
-  pub shared_more : (x : ℕ → E) (n : ℕ) (g h : Groups E) → g ≡ shared size join x n → h ≡ shared-one size join x g (next size join x g) → h ≡ shared size join x (n + 1)
+  pub shared_more : (x : ℕ → E) (n : ℕ) (g h : Groups E) → g ≡ shared size join x n → h ≡ shared_one size join x g (next size join x g) → h ≡ shared size join x (n + 1)
   unfolding shared
-  shared_more x n g h e d = d ∙ ap (λ z. shared-one size join x z (next size join x z)) e ∙ ap (shared size join x) (sym (add-one n))
+  shared_more x n g h e d = d ∙ ap (λ z. shared_one size join x z (next size join x z)) e ∙ ap (shared size join x) (sym (add-one n))
 
   pub growth_is : (a e y : E) (n : ℕ) → y ≡ e → n + size a ≡ size (join a y) → n ≡ growth size join a e
   unfolding growth
@@ -22,21 +22,21 @@ module _ {E : Type 0} (size : E → ℕ) (join : E → E → E) where
 
   module _ (x : ℕ → E) (g : Groups E) (i : ℕ) (y : E) (is : y ≡ x i) (l ga gb sa sb : ℕ) (grown-a : ga + size g.a ≡ size (join g.a y)) (grown-b : gb + size g.b ≡ size (join g.b y))
       (size-a : sa ≡ size g.a) (size-b : sb ≡ size g.b) (letter : l ≡ letter_for ga gb sa sb g.na g.nb) where
-    goes-is : eqb l 65 ≡ goes-to-a size join x g i
-    unfolding goes-to-a
-    goes-is =
+    goes_is : eqb l 65 ≡ goes_to_a size join x g i
+    unfolding goes_to_a
+    goes_is =
         let a = growth_is g.a (x i) y ga is grown-a in
         let b = growth_is g.b (x i) y gb is grown-b in
         cc
 
-    pub given-a : (k : E) → k ≡ join g.a y → l ≡ 65 → ◌≡◌ {A = Groups E} (record { letters = set g.letters i 65; a = k; b = g.b; na = g.na + 1; nb = g.nb }) (given size join x g i (goes-to-a size join x g i))
+    pub given_a : (k : E) → k ≡ join g.a y → l ≡ 65 → ◌≡◌ {A = Groups E} (record { letters = set g.letters i 65; a = k; b = g.b; na = g.na + 1; nb = g.nb }) (given size join x g i (goes_to_a size join x g i))
     unfolding given
-    given-a k h e =
+    given_a k h e =
         let mk : E → Groups E = λ z. record { letters = set g.letters i 65; a = z; b = g.b; na = g.na + 1; nb = g.nb } in
-        ap mk (h ∙ ap (join g.a) is) ∙ ap (given size join x g i) (sym (eq-eqb l 65 e) ∙ goes-is)
+        ap mk (h ∙ ap (join g.a) is) ∙ ap (given size join x g i) (sym (eq-eqb l 65 e) ∙ goes_is)
 
-    pub given-b : (k : E) → k ≡ join g.b y → (l ≡ 65 → ⊥) → ◌≡◌ {A = Groups E} (record { letters = set g.letters i 66; a = g.a; b = k; na = g.na; nb = g.nb + 1 }) (given size join x g i (goes-to-a size join x g i))
+    pub given_b : (k : E) → k ≡ join g.b y → (l ≡ 65 → ⊥) → ◌≡◌ {A = Groups E} (record { letters = set g.letters i 66; a = g.a; b = k; na = g.na; nb = g.nb + 1 }) (given size join x g i (goes_to_a size join x g i))
     unfolding given
-    given-b k h e =
+    given_b k h e =
         let mk : E → Groups E = λ z. record { letters = set g.letters i 66; a = g.a; b = z; na = g.na; nb = g.nb + 1 } in
-        ap mk (h ∙ ap (join g.b) is) ∙ ap (given size join x g i) (sym (ne_eqb l 65 e) ∙ goes-is)
+        ap mk (h ∙ ap (join g.b) is) ∙ ap (given size join x g i) (sym (ne_eqb l 65 e) ∙ goes_is)

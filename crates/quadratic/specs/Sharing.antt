@@ -2,7 +2,7 @@
 use Rattle.std.specs.Prelude.{◌≡◌, ℕ, ◌+◌, ◌<◌, ◌≤◌, cond, ◌⊎◌, List, [], ◌∷◌, map, length, ◌==◌}
 use Rattle.std.specs.List.{AllByRecursion as All}
 use Rattle.quadratic.specs.Choosing.{NextOf, Seeds}
-use Rattle.quadratic.specs.Split.{remaining, sizes, join-sizes, growths, seeds, next, shared}
+use Rattle.quadratic.specs.Split.{remaining, sizes, join_sizes_lem, growths, seeds, next, shared}
 
 -- how many of the letters are v
 abbrev pub tally : ℕ → List ℕ → ℕ
@@ -32,5 +32,5 @@ pub record RestToOne {E : Type 0} (size : E → ℕ) (join : E → E → E) (x :
 -- the seeds are the first of the pairs that are worst together, and in each turn the entry goes next whose growths differ most, the first
 -- such
 pub record ByTheRule {E : Type 0} (size : E → ℕ) (join : E → E → E) (x : ℕ → E) : Type 0 where
-  pub worst_pair : Seeds (sizes size join x) (join-sizes size join x) 81 (seeds size join x).0 (seeds size join x).1
+  pub worst_pair : Seeds (sizes size join x) (join_sizes_lem size join x) 81 (seeds size join x).0 (seeds size join x).1
   pub goes_next : (n : ℕ) → n < 7 → NextOf (growths size join x (shared size join x n).a) (growths size join x (shared size join x n).b) (shared size join x n).letters 9 (next size join x (shared size join x n))

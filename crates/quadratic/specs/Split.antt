@@ -56,14 +56,14 @@ module _ {E : Type 0} (size : E → ℕ) (join : E → E → E) where
     sizes = map (λ i. size (x i)) (range_with_len 0 9)
 
     -- the size of the join of i and j at place 9 i + j
-    unfoldable pub join-sizes : List ℕ
-    join-sizes = map (λ m. size (join (x (m / 9)) (x (m % 9)))) (range_with_len 0 81)
+    unfoldable pub join_sizes_lem : List ℕ
+    join_sizes_lem = map (λ m. size (join (x (m / 9)) (x (m % 9)))) (range_with_len 0 81)
 
     unfoldable pub growths : E → List ℕ
     growths a = map (λ i. growth a (x i)) (range_with_len 0 9)
 
     unfoldable pub seeds : ℕ × ℕ
-    seeds = seeds_before sizes join-sizes 81
+    seeds = seeds_before sizes join_sizes_lem 81
 
     -- each seed starts a group
     unfoldable pub started : ℕ × ℕ → Groups E
@@ -73,22 +73,22 @@ module _ {E : Type 0} (size : E → ℕ) (join : E → E → E) where
     next g = next_before (growths g.a) (growths g.b) g.letters 9
 
     -- the group that entry i goes to is A
-    unfoldable pub goes-to-a : Groups E → ℕ → Bool
-    goes-to-a g i = letter_for (growth g.a (x i)) (growth g.b (x i)) (size g.a) (size g.b) g.na g.nb == 65
+    unfoldable pub goes_to_a : Groups E → ℕ → Bool
+    goes_to_a g i = letter_for (growth g.a (x i)) (growth g.b (x i)) (size g.a) (size g.b) g.na g.nb == 65
 
     -- entry i goes to A, or to B
     unfoldable pub given : Groups E → ℕ → Bool → Groups E
     given g i true = record { letters = slice_set g.letters i 65; a = join g.a (x i); b = g.b; na = g.na + 1; nb = g.nb }
     given g i false = record { letters = slice_set g.letters i 66; a = g.a; b = join g.b (x i); na = g.na; nb = g.nb + 1 }
 
-    unfoldable pub shared-one : Groups E → Option ℕ → Groups E
-    shared-one g None = g
-    shared-one g (Some i) = given g i (goes-to-a g i)
+    unfoldable pub shared_one : Groups E → Option ℕ → Groups E
+    shared_one g None = g
+    shared_one g (Some i) = given g i (goes_to_a g i)
 
     -- after n of the seven others went to a group
     unfoldable pub shared : ℕ → Groups E
     shared zero = started seeds
-    shared (suc n) = shared-one (shared n) (next (shared n))
+    shared (suc n) = shared_one (shared n) (next (shared n))
 
     -- the letters of the nine
     unfoldable pub split9 : List ℕ

@@ -3,7 +3,7 @@ use Rattle.std.proofs.Common.{refl, lit<}
 use Rattle.raster.specs.Fonts.{rows_of}
 use Rattle.raster.specs.Lines.{pixels}
 use Rattle.painting.specs.Drawing.{topmost}
-use Rattle.quadratic.specs.Split.{worse, keep_worse, seeds_before, keep_pulled, next_before, letter_for, growth, sizes, join-sizes, growths, seeds, started, next, goes-to-a, given, shared-one, shared, split9}
+use Rattle.quadratic.specs.Split.{worse, keep_worse, seeds_before, keep_pulled, next_before, letter_for, growth, sizes, join_sizes_lem, growths, seeds, started, next, goes_to_a, given, shared_one, shared, split9}
 use Rattle.reference.specs.Cases.{ReferenceCases, SplitCases}
 
 pub cases_hold : ReferenceCases
@@ -19,5 +19,5 @@ cases_hold = record {
 }
 
 pub split_cases_hold : SplitCases
-unfolding worse keep_worse seeds_before keep_pulled next_before letter_for growth sizes join-sizes growths seeds started next goes-to-a given shared-one shared split9
+unfolding worse keep_worse seeds_before keep_pulled next_before letter_for growth sizes join_sizes_lem growths seeds started next goes_to_a given shared_one shared split9
 split_cases_hold = record { nine_frames = refl }

@@ -6,7 +6,7 @@ use Rattle.raster.specs.declared.refusal.Refusal.{Refusal}
 use Rattle.raster.specs.Refusals.{number}
 use Rattle.extent.specs.declared.entry.Entry.{Entry}
 use Rattle.guttman.specs.Trees.{Tree as Pure, inserted}
-use Rattle.guttman.specs.Shape.{pairs, Well-formed}
+use Rattle.guttman.specs.Shape.{pairs, WellFormed}
 use Rattle.node_rows.specs.Rows.{row, below, used}
 use Rattle.node_rows.specs.Nodes.{Distinct, Untouched}
 use Rattle.rtree.specs.declared.tree.Tree.{Tree}
@@ -32,7 +32,7 @@ module _ {E : Type 0} where
     pub tree : ◌≡◌ {A = (k : ℕ) × Pure E k} (t.height, tree_of t) (0, [])
     pub stored : t.stored ≡ 0
     pub same : places_of t ≡ places
-    pub formed : (covering : E → E → Bool) → Well-formed covering t.height (tree_of t)
+    pub formed : (covering : E → E → Bool) → WellFormed covering t.height (tree_of t)
 
   module _ (size : E → ℕ) (join : E → E → E) (covering : E → E → Bool) where
     -- a pair was stored: the tree is that of Guttman's insertion, it stores the pair and those that it stored, and if it was well formed, it
@@ -43,7 +43,7 @@ module _ {E : Type 0} where
       pub tree : ◌≡◌ {A = (k : ℕ) × Pure E k} (t'.height, tree_of t') (inserted size join t.height (tree_of t) e c)
       pub stored : t'.stored ≡ t.stored + 1
       pub pair : Permᴰ (pairs_of t') ((e, c) ∷ pairs_of t)
-      pub formed : Well-formed covering t.height (tree_of t) → Well-formed covering t'.height (tree_of t')
+      pub formed : WellFormed covering t.height (tree_of t) → WellFormed covering t'.height (tree_of t')
       pub apart : Distinct (taken t')
       pub long : length (places_of t') ≡ length (places_of t)
       pub memory : Untouched (places_of t) (places_of t') (taken t')

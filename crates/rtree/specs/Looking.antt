@@ -2,7 +2,7 @@
 use Rattle.std.specs.Prelude.{◌≡◌, ℕ, ◌<◌, ◌≤◌, Bool, ◌⊎◌, List, length, Ok, Err, Result}
 use Rattle.raster.specs.declared.refusal.Refusal.{Refusal}
 use Rattle.raster.specs.Refusals.{number}
-use Rattle.guttman.specs.Shape.{Well-formed}
+use Rattle.guttman.specs.Shape.{WellFormed}
 use Rattle.guttman.specs.Finding.{reached, passing}
 use Rattle.node_rows.specs.Walks.{Finds}
 use Rattle.rtree.specs.declared.tree.Tree.{Tree}
@@ -15,13 +15,13 @@ module _ {E : Type 0} (covering : E → E → Bool) (test : E → Bool) where
     pub rows : 2048 ≤ length (places_of t)
     pub room : 256 ≤ length l
     pub walked : Finds (reached test t.height (tree_of t)) l n m
-    pub all : Well-formed covering t.height (tree_of t) → Finds (passing test (pairs_of t)) l n m
+    pub all : WellFormed covering t.height (tree_of t) → Finds (passing test (pairs_of t)) l n m
 
   -- why a look-up is refused: the places have fewer than 256 rows, or else the list has fewer than 256 entries
-  abbrev pub Turned-away : Tree E → List ℕ → Refusal → Type 0
-  Turned-away t l x = ((length (places_of t) < 2048) × (number x ≡ 4)) ⊎ ((2048 ≤ length (places_of t)) × (length l < 256) × (number x ≡ 16))
+  abbrev pub TurnedAway : Tree E → List ℕ → Refusal → Type 0
+  TurnedAway t l x = ((length (places_of t) < 2048) × (number x ≡ 4)) ⊎ ((2048 ≤ length (places_of t)) × (length l < 256) × (number x ≡ 16))
 
   -- a look-up writes the codes, or it is refused and the list stays
-  abbrev pub Look-up : Tree E → List ℕ → Result ℕ Refusal → List ℕ → Type 0
-  Look-up t l (Ok n) m = Looked t l n m
-  Look-up t l (Err x) m = Turned-away t l x × (m ≡ l)
+  abbrev pub LookUp : Tree E → List ℕ → Result ℕ Refusal → List ℕ → Type 0
+  LookUp t l (Ok n) m = Looked t l n m
+  LookUp t l (Err x) m = TurnedAway t l x × (m ≡ l)

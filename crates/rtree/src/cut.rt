@@ -5,7 +5,7 @@ ghost use Rattle.std.specs.List.{AllByRecursion as All};
 ghost use Rattle.guttman.specs.Cutting.{cut as cut_of};
 ghost use Rattle.node_rows.specs.Rows.{row as row_of, below, used};
 ghost use Rattle.node_rows.specs.Nodes.{Off, Ready, Placed};
-ghost use Rattle.node_rows.specs.Removal.{Dropped, Stayed, Was-cut};
+ghost use Rattle.node_rows.specs.Removal.{Dropped, Stayed, WasCut};
 
 use crate::gather::gather;
 use crate::leaf::{cut_leaf, take_out};
@@ -59,7 +59,7 @@ pub(crate) fn cut<M: Measured + Copy>(
     requires placed { Placed (row_of places.old counts.old) height at }
     requires filled { All (Filled height) (below (row_of places.old counts.old) height at) }
     requires room { length (pairs height (below (row_of places.old counts.old) height at)) ≤ length again.old }
-    ensures { MatchOption result ((cut_of M.Measured.measure M.Extent.joined M.Extent.covering pair.extent pair.code height (below (row_of places.old counts.old) height at) ≡ None) × (places.new ≡ places.old) × (counts.new ≡ counts.old)) (λ n. Was-cut places.old counts.old places.new counts.new M.Measured.measure M.Extent.joined M.Extent.covering pair.extent pair.code height at again.new n) }
+    ensures { MatchOption result ((cut_of M.Measured.measure M.Extent.joined M.Extent.covering pair.extent pair.code height (below (row_of places.old counts.old) height at) ≡ None) × (places.new ≡ places.old) × (counts.new ≡ counts.old)) (λ n. WasCut places.old counts.old places.new counts.new M.Measured.measure M.Extent.joined M.Extent.covering pair.extent pair.code height at again.new n) }
 {
     if height == 0 {
         if cut_leaf(places, counts, at, pair) {

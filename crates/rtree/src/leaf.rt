@@ -3,7 +3,7 @@ ghost use Rattle.std.specs.Prelude.{◌≡◌, ℕ, ◌+◌, ◌*◌, ◌<◌, �
 ghost use Rattle.guttman.specs.Cutting.{is_pair};
 ghost use Rattle.node_rows.specs.Rows.{row as row_of};
 ghost use Rattle.node_rows.specs.Nodes.{Ready};
-ghost use Rattle.node_rows.specs.Removal.{as-pair, before-pair, Taken-out};
+ghost use Rattle.node_rows.specs.Removal.{as_pair, before_pair, TakenOut};
 
 use crate::row::read;
 use extent::entry::Entry;
@@ -11,7 +11,7 @@ use extent::extent::Extent;
 
 /// Whether two entries are one pair: their extents cover each other, and their codes are equal.
 fn same_pair<M: Extent + Copy>(entry: Entry<M>, pair: Entry<M>) -> bool
-    ensures { result ≡ is_pair M.Extent.covering pair.extent pair.code (as-pair entry) }
+    ensures { result ≡ is_pair M.Extent.covering pair.extent pair.code (as_pair entry) }
 {
     entry.extent.covers(&pair.extent)
         && pair.extent.covers(&entry.extent)
@@ -20,7 +20,7 @@ fn same_pair<M: Extent + Copy>(entry: Entry<M>, pair: Entry<M>) -> bool
 
 /// How many entries of a row stand before the pair; all, if it is not there.
 fn before<M: Extent + Copy>(row: &[Entry<M>], pair: Entry<M>) -> usize
-    ensures is { result ≡ before-pair M.Extent.covering pair.extent pair.code row.now }
+    ensures is { result ≡ before_pair M.Extent.covering pair.extent pair.code row.now }
     ensures within { result ≤ length row.now }
 {
     for i in 0..row.len() {
@@ -40,7 +40,7 @@ fn place_of<M: Extent + Copy>(
 ) -> usize
     requires ready { Ready places.now counts.now }
     requires there { at < 256 }
-    ensures is { result ≡ before-pair M.Extent.covering pair.extent pair.code (row_of places.now counts.now at) }
+    ensures is { result ≡ before_pair M.Extent.covering pair.extent pair.code (row_of places.now counts.now at) }
     ensures within { result ≤ slice_index counts.now at }
 {
     let start = 8 * at;
@@ -66,7 +66,7 @@ pub(crate) fn take_out<M: Extent + Copy>(
     requires ready { Ready places.old counts.old }
     requires there { at < 256 }
     requires inside { i < slice_index counts.old at }
-    ensures { Taken-out places.old counts.old places.new counts.new at i }
+    ensures { TakenOut places.old counts.old places.new counts.new at i }
 {
     let last = counts[at] - 1;
     let moved = read(places, 8 * at + last as usize);
@@ -83,8 +83,8 @@ pub(crate) fn cut_leaf<M: Extent + Copy>(
 ) -> bool
     requires ready { Ready places.old counts.old }
     requires there { at < 256 }
-    ensures found { result ≡ true → (before-pair M.Extent.covering pair.extent pair.code (row_of places.old counts.old at) < length (row_of places.old counts.old at)) × Taken-out places.old counts.old places.new counts.new at (before-pair M.Extent.covering pair.extent pair.code (row_of places.old counts.old at)) }
-    ensures missing { result ≡ false → (length (row_of places.old counts.old at) ≤ before-pair M.Extent.covering pair.extent pair.code (row_of places.old counts.old at)) × (places.new ≡ places.old) × (counts.new ≡ counts.old) }
+    ensures found { result ≡ true → (before_pair M.Extent.covering pair.extent pair.code (row_of places.old counts.old at) < length (row_of places.old counts.old at)) × TakenOut places.old counts.old places.new counts.new at (before_pair M.Extent.covering pair.extent pair.code (row_of places.old counts.old at)) }
+    ensures missing { result ≡ false → (length (row_of places.old counts.old at) ≤ before_pair M.Extent.covering pair.extent pair.code (row_of places.old counts.old at)) × (places.new ≡ places.old) × (counts.new ≡ counts.old) }
 {
     let i = place_of(places, counts, at, pair);
     if i >= counts[at] as usize {

@@ -1,7 +1,7 @@
 //! Inserting an entry into a whole tree, whose root may be split.
 ghost use Rattle.std.specs.Prelude.{◌≡◌, ℕ, ◌+◌, ◌<◌, ◌≤◌, [], ◌∷◌, length, slice_index};
 ghost use Rattle.node_rows.specs.Rows.{row as row_of};
-ghost use Rattle.node_rows.specs.Nodes.{spare, Ready, Placed, Set-up, Added};
+ghost use Rattle.node_rows.specs.Nodes.{spare, Ready, Placed, SetUp, Added};
 
 use crate::insert::insert;
 use crate::row::{bounds, fresh, push};
@@ -30,7 +30,7 @@ fn crown<M: Extent + Copy>(
     requires ready { Ready places.old counts.old }
     requires there { top < 256 }
     requires free { slice_index counts.old top ≡ 0 }
-    ensures { Set-up places.old counts.old places.new counts.new top (first ∷ second ∷ []) }
+    ensures { SetUp places.old counts.old places.new counts.new top (first ∷ second ∷ []) }
 {
     push(places, counts, top, first);
     push(places, counts, top, second);

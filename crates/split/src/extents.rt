@@ -1,5 +1,5 @@
 ghost use Rattle.std.specs.Prelude.{◌≡◌};
-ghost use Rattle.quadratic.specs.Split.{sizes as sizesOf, join-sizes, growths as growthsOf};
+ghost use Rattle.quadratic.specs.Split.{sizes as sizes_lem, join_sizes_lem, growths as growths_lem};
 ghost use Rattle.split.specs.Nine.{nine};
 
 use extent::entry::Entry;
@@ -17,7 +17,7 @@ pub(crate) fn nth<M: Measured + Copy>(row: &[Entry<M>], last: M, i: usize) -> M
 
 /// The sizes of the nine.
 pub(crate) fn sizes<M: Measured + Copy>(row: &[Entry<M>], last: M) -> [u32; 9]
-    ensures { result ≡ sizesOf M.Measured.measure M.Extent.joined (nine row.now last) }
+    ensures { result ≡ sizes_lem M.Measured.measure M.Extent.joined (nine row.now last) }
 {
     let mut all = [0; 9];
     for i in 0..9usize {
@@ -28,7 +28,7 @@ pub(crate) fn sizes<M: Measured + Copy>(row: &[Entry<M>], last: M) -> [u32; 9]
 
 /// The sizes of the joins of any two, that of i and j at place 9·i + j.
 pub(crate) fn join_sizes<M: Measured + Copy>(row: &[Entry<M>], last: M) -> [u32; 81]
-    ensures { result ≡ join-sizes M.Measured.measure M.Extent.joined (nine row.now last) }
+    ensures { result ≡ join_sizes_lem M.Measured.measure M.Extent.joined (nine row.now last) }
 {
     let mut all = [0; 81];
     for m in 0..81usize {
@@ -39,7 +39,7 @@ pub(crate) fn join_sizes<M: Measured + Copy>(row: &[Entry<M>], last: M) -> [u32;
 
 /// By how much an extent grows with each of the nine.
 pub(crate) fn growths<M: Measured + Copy>(row: &[Entry<M>], last: M, of: M) -> [u32; 9]
-    ensures { result ≡ growthsOf M.Measured.measure M.Extent.joined (nine row.now last) of }
+    ensures { result ≡ growths_lem M.Measured.measure M.Extent.joined (nine row.now last) of }
 {
     let mut all = [0; 9];
     for i in 0..9usize {

@@ -1,5 +1,5 @@
 ghost use Rattle.std.specs.Prelude.{◌≡◌, ◌+◌, ◌<◌, ◌≤◌};
-ghost use Rattle.quadratic.specs.Split.{started, next, goes-to-a, given, shared-one};
+ghost use Rattle.quadratic.specs.Split.{started, next, goes_to_a, given, shared_one};
 ghost use Rattle.split.specs.Nine.{nine};
 ghost use Rattle.split.specs.Sharing.{groups_of};
 
@@ -44,7 +44,7 @@ pub(crate) fn start<M: Measured + Copy>(
 fn give<M: Measured + Copy>(row: &[Entry<M>], last: M, so_far: Sharing<M>, i: usize) -> Sharing<M>
     requires place { i < 9 }
     requires counts { so_far.na + so_far.nb ≤ 9 }
-    ensures { groups_of result ≡ given M.Measured.measure M.Extent.joined (nine row.now last) (groups_of so_far) i (goes-to-a M.Measured.measure M.Extent.joined (nine row.now last) (groups_of so_far) i) }
+    ensures { groups_of result ≡ given M.Measured.measure M.Extent.joined (nine row.now last) (groups_of so_far) i (goes_to_a M.Measured.measure M.Extent.joined (nine row.now last) (groups_of so_far) i) }
 {
     let x = nth(row, last, i);
     let Sharing {
@@ -83,7 +83,7 @@ pub(crate) fn share_one<M: Measured + Copy>(
     so_far: Sharing<M>,
 ) -> Sharing<M>
     requires { so_far.na + so_far.nb ≤ 9 }
-    ensures { groups_of result ≡ shared-one M.Measured.measure M.Extent.joined (nine row.now last) (groups_of so_far) (next M.Measured.measure M.Extent.joined (nine row.now last) (groups_of so_far)) }
+    ensures { groups_of result ≡ shared_one M.Measured.measure M.Extent.joined (nine row.now last) (groups_of so_far) (next M.Measured.measure M.Extent.joined (nine row.now last) (groups_of so_far)) }
 {
     let a = growths(row, last, so_far.a);
     let b = growths(row, last, so_far.b);

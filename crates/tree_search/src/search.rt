@@ -1,6 +1,6 @@
 ghost use Rattle.std.specs.Prelude.{◌≡◌, ◌+◌, ◌≤◌, min, [], ◌∷◌, length};
 ghost use Rattle.std.proofs.lemmas.List.Edits.{sets};
-ghost use Rattle.node_rows.specs.Walks.{codes-below};
+ghost use Rattle.node_rows.specs.Walks.{codes_below};
 
 use crate::entries::entries;
 use crate::query::{Holding, Meeting, Query};
@@ -32,8 +32,8 @@ fn walk<E, Q: Query<E>>(
     found: usize,
 ) -> usize
     requires { found ≤ length list.old }
-    ensures count { result ≡ min (found + length (codes-below (Q.Query.passing query.now) places.now counts.now height at)) (length list.old) }
-    ensures wrote { list.new ≡ sets list.old found (codes-below (Q.Query.passing query.now) places.now counts.now height at) }
+    ensures count { result ≡ min (found + length (codes_below (Q.Query.passing query.now) places.now counts.now height at)) (length list.old) }
+    ensures wrote { list.new ≡ sets list.old found (codes_below (Q.Query.passing query.now) places.now counts.now height at) }
 {
     let mut next = found;
     for item in entries(places, counts, at) {
@@ -66,8 +66,8 @@ pub fn find_below<E: Extent + Copy>(
     extent: &E,
     list: &mut [u16],
 ) -> usize
-    ensures count { result ≡ min (length (codes-below (λ x. E.Extent.meeting x extent.now) places.now counts.now height at)) (length list.old) }
-    ensures wrote { list.new ≡ sets list.old 0 (codes-below (λ x. E.Extent.meeting x extent.now) places.now counts.now height at) }
+    ensures count { result ≡ min (length (codes_below (λ x. E.Extent.meeting x extent.now) places.now counts.now height at)) (length list.old) }
+    ensures wrote { list.new ≡ sets list.old 0 (codes_below (λ x. E.Extent.meeting x extent.now) places.now counts.now height at) }
 {
     walk(places, counts, height, at, &Meeting(extent), list, 0)
 }
@@ -81,8 +81,8 @@ pub fn at_below<E: Extent + Copy>(
     spot: &E::Spot,
     list: &mut [u16],
 ) -> usize
-    ensures count { result ≡ min (length (codes-below (λ x. E.Extent.holding x spot.now) places.now counts.now height at)) (length list.old) }
-    ensures wrote { list.new ≡ sets list.old 0 (codes-below (λ x. E.Extent.holding x spot.now) places.now counts.now height at) }
+    ensures count { result ≡ min (length (codes_below (λ x. E.Extent.holding x spot.now) places.now counts.now height at)) (length list.old) }
+    ensures wrote { list.new ≡ sets list.old 0 (codes_below (λ x. E.Extent.holding x spot.now) places.now counts.now height at) }
 {
     walk(places, counts, height, at, &Holding(spot), list, 0)
 }

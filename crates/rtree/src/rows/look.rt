@@ -1,7 +1,7 @@
 ghost use Rattle.std.specs.Prelude.{◌≡◌, min, length};
 ghost use Rattle.std.proofs.lemmas.List.Edits.{sets};
 ghost use Rattle.node_rows.specs.Rows.{row as row_of};
-ghost use Rattle.node_rows.specs.Walks.{codes-below};
+ghost use Rattle.node_rows.specs.Walks.{codes_below};
 
 use super::Rows;
 use extent::entry::Entry;
@@ -12,16 +12,16 @@ use tree_search::search::{at_below, find_below};
 impl<E: Extent + Copy> Rows<'_, E> {
     /// Writes the codes of what meets the extent in the tree of this height at the row `root`, and answers how many.
     pub(crate) fn find(&self, height: usize, root: usize, extent: &E, list: &mut [u16]) -> usize
-        ensures count { result ≡ min (length (codes-below (λ x. E.Extent.meeting x extent.now) self.now.places.now self.now.counts height root)) (length list.old) }
-        ensures wrote { list.new ≡ sets list.old 0 (codes-below (λ x. E.Extent.meeting x extent.now) self.now.places.now self.now.counts height root) }
+        ensures count { result ≡ min (length (codes_below (λ x. E.Extent.meeting x extent.now) self.now.places.now self.now.counts height root)) (length list.old) }
+        ensures wrote { list.new ≡ sets list.old 0 (codes_below (λ x. E.Extent.meeting x extent.now) self.now.places.now self.now.counts height root) }
     {
         find_below(self.places, &self.counts, height, root, extent, list)
     }
 
     /// The same for what holds the spot.
     pub(crate) fn at(&self, height: usize, root: usize, spot: &E::Spot, list: &mut [u16]) -> usize
-        ensures count { result ≡ min (length (codes-below (λ x. E.Extent.holding x spot.now) self.now.places.now self.now.counts height root)) (length list.old) }
-        ensures wrote { list.new ≡ sets list.old 0 (codes-below (λ x. E.Extent.holding x spot.now) self.now.places.now self.now.counts height root) }
+        ensures count { result ≡ min (length (codes_below (λ x. E.Extent.holding x spot.now) self.now.places.now self.now.counts height root)) (length list.old) }
+        ensures wrote { list.new ≡ sets list.old 0 (codes_below (λ x. E.Extent.holding x spot.now) self.now.places.now self.now.counts height root) }
     {
         at_below(self.places, &self.counts, height, root, spot, list)
     }

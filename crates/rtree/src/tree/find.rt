@@ -1,4 +1,4 @@
-ghost use Rattle.rtree.specs.Looking.{Look-up};
+ghost use Rattle.rtree.specs.Looking.{LookUp};
 
 use super::Tree;
 use crate::rows::PLACES;
@@ -12,7 +12,7 @@ impl<E: Extent + Copy> Tree<'_, E> {
     /// Writes the codes of all pairs whose extent meets this one to the list, each as often as it is stored, and answers how many. Over
     /// fewer than 256 rows, and then where the list has fewer than 256 entries, it is refused and the list stays.
     pub fn find(&self, extent: &E, list: &mut [u16]) -> Result<usize, Refusal>
-        ensures { Look-up E.Extent.covering (λ x. E.Extent.meeting x extent.now) self.now list.old result list.new }
+        ensures { LookUp E.Extent.covering (λ x. E.Extent.meeting x extent.now) self.now list.old result list.new }
     {
         if self.rows.len() < PLACES {
             return Err(Refusal::Rows);
@@ -25,7 +25,7 @@ impl<E: Extent + Copy> Tree<'_, E> {
 
     /// The same for all pairs whose extent holds this spot.
     pub fn at(&self, spot: &E::Spot, list: &mut [u16]) -> Result<usize, Refusal>
-        ensures { Look-up E.Extent.covering (λ x. E.Extent.holding x spot.now) self.now list.old result list.new }
+        ensures { LookUp E.Extent.covering (λ x. E.Extent.holding x spot.now) self.now list.old result list.new }
     {
         if self.rows.len() < PLACES {
             return Err(Refusal::Rows);

@@ -1,7 +1,7 @@
 use mathlib.Core.Path.{refl}
 use Rattle.guttman.specs.Laws.{Joining}
 use Rattle.guttman.proofs.Laws.{insertion_keeps, choice_soonest, finding_misses_none, half_as_many_nodes, five_nodes_deep}
-use Rattle.guttman.proofs.Deleting.{cut_halfway, deletion_keeps, deletion-answers}
+use Rattle.guttman.proofs.Deleting.{cut_halfway, deletion_keeps, deletion_answers}
 use Rattle.tree_laws.proofs.tree_laws.Goals as goal
 
 pub returns : goal.returns
@@ -19,7 +19,7 @@ returns g c =
         rows = half_as_many_nodes _;
         depth = five_nodes_deep _;
         deletion = deletion_keeps size join covering laws;
-        answers = deletion-answers size join covering laws m.antisymmetric;
+        answers = deletion_answers size join covering laws m.antisymmetric;
         halfway = cut_halfway covering;
       };
       count = refl;

@@ -1,6 +1,6 @@
 use Rattle.std.proofs.Common.{◌≡◌, ℕ, refl, subst, arith}
 use Rattle.std.proofs.lemmas.Bool.{true≢false, false≢true}
-use Rattle.node_rows.specs.Removal.{Taken-out}
+use Rattle.node_rows.specs.Removal.{TakenOut}
 use Rattle.node_rows.proofs.RowSet.{count_row}
 use Rattle.rtree.proofs.leaf.cut_leaf.Goals as goal
 
@@ -12,7 +12,7 @@ returns g c =
     let n = count_row places counts c.requires.ready at c.requires.there in
     let i = c.place-of-i.ensures.is in
     record {
-      found = λ _. (omega (arith, c.if-i-counts.false), subst (Taken-out places counts c.take-out.new.places c.take-out.new.counts at) i c.take-out.ensures);
+      found = λ _. (omega (arith, c.if-i-counts.false), subst (TakenOut places counts c.take-out.new.places c.take-out.new.counts at) i c.take-out.ensures);
       missing = λ z. absurd (true≢false z);
     }
 

@@ -1,5 +1,5 @@
 use Rattle.std.proofs.Common.{◌-◌, get_or, set, sym, subst, arith}
-use Rattle.node_rows.specs.Removal.{Taken-out}
+use Rattle.node_rows.specs.Removal.{TakenOut}
 use Rattle.node_rows.proofs.Removing.{taken_out}
 use Rattle.rtree.proofs.leaf.take_out.Goals as goal
 
@@ -10,5 +10,5 @@ returns g c =
     let at = c.args.at in
     let last = get_or counts at 0 - 1 in
     let l = c.requires.inside in
-    subst (λ z. Taken-out places counts z (set counts at last) at c.args.i) (sym c.write.ensures)
+    subst (λ z. TakenOut places counts z (set counts at last) at c.args.i) (sym c.write.ensures)
     (taken_out places counts at c.args.i last c.read-moved.result c.requires.ready c.requires.there l (omega arith) c.read-moved.ensures)

@@ -1,5 +1,5 @@
 use Rattle.std.proofs.Common.{◌≡◌, ◌<◌, length, sym, ap, ◌∙◌, arith}
-use Rattle.node_rows.proofs.Picks.{chosen_before, chosen_none, chosen-takes, chosen-keeps, chosen_all}
+use Rattle.node_rows.proofs.Picks.{chosen_before, chosen_none, chosen_takes, chosen_keeps, chosen_all}
 use Rattle.rtree.proofs.pick.choose.Goals as goal
 use Rattle.rtree.proofs.pick.choose.Goals.{then-sooner, else-sooner}
 
@@ -16,13 +16,13 @@ loop-i-preserved g c =
     elim c.if-sooner.branch [
       | then-sooner w ↦ (
         w.best-is
-            ∙ chosen-takes size join row c.args.e c.loop-i.i c.loop-i.best c.index-row-i.result c.index-row-best.result li lb c.loop-i.invariant.0
+            ∙ chosen_takes size join row c.args.e c.loop-i.i c.loop-i.best c.index-row-i.result c.index-row-best.result li lb c.loop-i.invariant.0
             (sym c.sooner.ensures ∙ w.if-sooner.true),
         omega (arith, w.best-is),
       )
       | else-sooner w ↦ (
         w.best-is
-            ∙ chosen-keeps size join row c.args.e c.loop-i.i c.loop-i.best c.index-row-i.result c.index-row-best.result li lb c.loop-i.invariant.0
+            ∙ chosen_keeps size join row c.args.e c.loop-i.i c.loop-i.best c.index-row-i.result c.index-row-best.result li lb c.loop-i.invariant.0
             (sym c.sooner.ensures ∙ w.if-sooner.false),
         omega (arith, w.best-is),
       )

@@ -1,7 +1,7 @@
 use Rattle.std.proofs.Common.{◌≡◌, suc, ◌+◌, ◌-◌, ◌<◌, ◌≤◌, min, [], ◌∷◌, length, get_or, sym, ap, ◌∙◌, subst, arith}
 use lib.Seq.{sets}
 use Rattle.node_rows.specs.Rows.{row}
-use Rattle.node_rows.specs.Walks.{codes-below}
+use Rattle.node_rows.specs.Walks.{codes_below}
 use Rattle.node_rows.proofs.Found.{put_none, codes_missed, codes_leaf, codes_inner, walked_more, walked_all}
 use Rattle.tree_search.proofs.search.+walk.Goals as goal
 use Rattle.tree_search.proofs.search.+walk.Goals.{then-passes+then-height-eq0, then-passes+else-height-eq0, else-passes}
@@ -26,7 +26,7 @@ loop-item-preserved g t c =
           record { count = w.next_is ∙ w.put-next.ensures.count; wrote = w.list-is ∙ w.put-next.ensures.wrote }
       | then-passes+else-height-eq0 w ↦
           let s : h ≡ suc (h - 1) = omega (arith, w.if-height-eq0.false) in
-          turn (codes-below test places counts (h - 1) d.code) (codes_inner f test h (h - 1) d s (sym w.if-passes.ensures)) c.loop-item.invariant
+          turn (codes_below test places counts (h - 1) d.code) (codes_inner f test h (h - 1) d s (sym w.if-passes.ensures)) c.loop-item.invariant
           record { count = w.next_is ∙ w.walk-next.ensures.count; wrote = w.list-is ∙ w.walk-next.ensures.wrote }
       | else-passes w ↦
           let none = put_none c.loop-item.list c.loop-item.next (omega (arith, c.loop-item.invariant.count, c.loop-item.auto.list)) in

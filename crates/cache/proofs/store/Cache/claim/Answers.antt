@@ -12,7 +12,7 @@ invariant_of-self g c =
     let i = c.args.self.now.next in
     let there : i < length ss = search rules in
     let free = still_free c.args.self.now.slots ss i c.args.tile c.empty.ensures.free c.empty.ensures.others (c.find-found.ensures.missing c.if-found-lt4.false) in
-    (simp length-set c.empty.new.self.four, (omega arith, (apart_set ss i c.blank.result there c.empty.new.self.apart (λ j n. ap (λ o. same_tile o (tile_at ss j)) c.blank.ensures.tile ∙ free j), tt)))
+    record { four = simp length-set c.empty.new.self.four; turn = omega arith; apart = apart_set ss i c.blank.result there c.empty.new.self.apart (λ j n. ap (λ o. same_tile o (tile_at ss j)) c.blank.ensures.tile ∙ free j) }
 
 pub returns : goal.returns
 returns g c =

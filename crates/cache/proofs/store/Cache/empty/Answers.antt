@@ -9,7 +9,7 @@ pub invariant_of-self : goal.invariant_of-self
 invariant_of-self g c =
     let ss = c.args.self.now.slots in
     let there : c.args.i < length ss = search rules in
-    (simp length-set c.args.self.now.four, (c.args.self.now.turn, (apart_set ss c.args.i c.blank.result there c.args.self.now.apart (λ j n. ap (λ o. same_tile o (tile_at ss j)) c.blank.ensures.tile), tt)))
+    record { four = simp length-set c.args.self.now.four; turn = c.args.self.now.turn; apart = apart_set ss c.args.i c.blank.result there c.args.self.now.apart (λ j n. ap (λ o. same_tile o (tile_at ss j)) c.blank.ensures.tile) }
 
 pub returns : goal.returns
 returns g c =

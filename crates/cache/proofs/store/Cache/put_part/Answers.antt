@@ -15,7 +15,7 @@ invariant_of-self g c =
     let there : i < length ss = search rules in
     let s = get_or ss i c.index-self-i.result in
     let at = tile_read ss i s there (get_or_default ss i c.index-self-i.result s there) in
-    (simp length-set c.claim-i.new.self.four, (c.claim-i.new.self.turn, (apart_set ss i c.put.new.self there c.claim-i.new.self.apart (λ j n. ap (λ o. same_tile o (tile_at ss j)) (c.put.ensures.tile ∙ sym at) ∙ c.claim-i.new.self.apart i j n), tt)))
+    record { four = simp length-set c.claim-i.new.self.four; turn = c.claim-i.new.self.turn; apart = apart_set ss i c.put.new.self there c.claim-i.new.self.apart (λ j n. ap (λ o. same_tile o (tile_at ss j)) (c.put.ensures.tile ∙ sym at) ∙ c.claim-i.new.self.apart i j n) }
 
 pub returns : goal.returns
 returns g c =

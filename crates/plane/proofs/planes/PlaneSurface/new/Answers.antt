@@ -6,4 +6,4 @@ use Rattle.plane.proofs.planes.PlaneSurface.new.Goals as goal
 pub invariant_of-result-2 : goal.invariant_of-result-2
 invariant_of-result-2 c =
     let bytes = c.clear.ensures ∙ ap (λ (p : ℕ). filled (4 * p) 0 c.args.memory.now) c.plane_bytes.ensures in
-    (search rules, (search rules, (search rules, (filled_clear c.args.width c.args.height c.args.memory.now c.clear.new.bytes bytes, tt))))
+    record { narrow = search rules; low = search rules; room = search rules; spare = filled_clear c.args.width c.args.height c.args.memory.now c.clear.new.bytes bytes }

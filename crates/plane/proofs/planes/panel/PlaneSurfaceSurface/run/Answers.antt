@@ -24,7 +24,7 @@ invariant_of-self c =
     let s = c.args.self.now in
     let xs = s.planes.memory.now in
     let bytes = run_bytes c.args.y c.args.x c.args.n c.args.ink _ _ _ _ xs _ c.plane_bytes-bits.ensures c.row_bytes.ensures c.write.ensures.bytes in
-    (search rules, (search rules, (search rules, (spare_kept s.width s.height c.args.x c.args.y c.args.n c.args.ink xs _ s.room c.if-not-accepts.ensures bytes s.spare, tt))))
+    record { narrow = search rules; low = search rules; room = search rules; spare = spare_kept s.width s.height c.args.x c.args.y c.args.n c.args.ink xs _ s.room c.if-not-accepts.ensures bytes s.spare }
 
 pub returns : goal.returns
 returns c =
