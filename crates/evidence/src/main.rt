@@ -1,6 +1,7 @@
 //! Paints a sheet whole from its list of shapes: prints a record and the picture in characters and, with a file name,
 //! writes a Netpbm frame.
 #![tactic(auto)]
+
 mod input;
 mod panel;
 mod picture;
@@ -18,6 +19,7 @@ use raster::font::Font;
 use record::{fault_record, line_record};
 use shape_list::list::ShapeList;
 use shape_list::reading::{start, take};
+use std::process::ExitCode;
 use std::{env, fs};
 use stop::Stop;
 use surface::byte::ByteSurface;
@@ -178,17 +180,24 @@ fn run(rt: &HostRuntime) -> Result<(), Stop> {
     Ok(())
 }
 
-fn main(rt: HostRuntime) -> Result<(), Stop> {
-    let result = run(&rt);
-    match &result {
-        Err(Stop::Fault(k, fault)) => rt.println(fault_record(rt.alloc(), *k, *fault)?)?,
-        Err(Stop::Usage) => eprintln!(rt; "usage: evidence [--panel NAME] [FRAME.ppm] < LIST")?,
-        Err(Stop::Panel(name)) => eprintln!(rt;
+/// Says why the program stopped.
+fn report(rt: &HostRuntime, stop: &Stop) -> Result<(), Stop> {
+    match stop {
+        Stop::Fault(k, fault) => rt.println(fault_record(rt.alloc(), *k, *fault)?)?,
+        Stop::Usage => eprintln!(rt; "usage: evidence [--panel NAME] [FRAME.ppm] < LIST")?,
+        Stop::Panel(name) => eprintln!(rt;
             "evidence: no panel is named {name}: byte, plane, cached-byte, cached-plane, twice-cached-plane"
         )?,
-        Err(Stop::Io(error)) => eprintln!(rt; "evidence: {error}")?,
-        Err(Stop::Memory) => eprintln!(rt; "evidence: out of memory")?,
-        Ok(()) => {}
+        Stop::Io(error) => eprintln!(rt; "evidence: {error}")?,
+        Stop::Memory => eprintln!(rt; "evidence: out of memory")?,
     }
-    result
+    Ok(())
+}
+
+fn main(rt: HostRuntime) -> ExitCode {
+    let Err(stop) = run(&rt) else {
+        return ExitCode::SUCCESS;
+    };
+    let _ = report(&rt, &stop);
+    ExitCode::FAILURE
 }

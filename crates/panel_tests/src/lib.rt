@@ -1,5 +1,6 @@
 //! One scene painted on every panel: the frames are the same, byte by byte.
 #![tactic(auto)]
+
 ghost use Rattle.std.specs.Prelude.{◌≤◌};
 
 use cache::store::Cache;

@@ -1,5 +1,6 @@
 //! The record that the service engineer reads: a line of text for each line of a listing. It hands on the picture in characters.
 #![tactic(auto)]
+
 ghost use Rattle.std.specs.Prelude.{◌≡◌, IfOk, string_bytes};
 ghost use Rattle.record.specs.Texts.{shape_text, line_text, fault_text};
 

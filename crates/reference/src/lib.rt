@@ -1,5 +1,6 @@
 //! A table of reference cases: facts at fixed numbers, proved of the definitions that the library's contracts use.
 #![tactic(auto)]
+
 ghost use Rattle.std.specs.Prelude.{◌≡◌};
 ghost use Rattle.reference.specs.Cases.{ReferenceCases, SplitCases};
 

@@ -1,5 +1,6 @@
 //! An R-tree in rows of lent memory, by Guttman's rules.
 #![tactic(auto)]
+
 mod cut;
 mod deal;
 mod gather;

@@ -1,5 +1,6 @@
 //! Tests of a sheet that is read from lines of text, and of its record.
 #![tactic(auto)]
+
 #[cfg(test)]
 mod painted;
 #[cfg(test)]

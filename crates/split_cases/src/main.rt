@@ -1,5 +1,6 @@
 //! Reads nine extents from each line of standard input, and prints the letters by which they are shared out.
 #![tactic(auto)]
+
 mod case;
 
 use anyhow::anyhow;

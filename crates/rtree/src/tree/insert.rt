@@ -7,9 +7,6 @@ use extent::entry::Entry;
 use extent::extent::{Extent, Measured};
 use raster::refusal::Refusal;
 
-/// The places of 256 rows.
-const PLACES: usize = 2048;
-
 /// The most pairs that a tree stores.
 const MOST: usize = 256;
 

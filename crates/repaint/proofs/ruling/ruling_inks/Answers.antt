@@ -4,7 +4,7 @@ use Rattle.tiling.proofs.Ruled.{ruled_none, ruled_more, ruled_whole}
 use Rattle.repaint.proofs.ruling.ruling_inks.Goals as goal
 
 pub loop-s-init : goal.loop-s-init
-loop-s-init c n h = c.own-inks-inks.ensures n h ∙ ruled_none c.args.shapes.now c.args.spans.now c.args.frame c.args.found.now n
+loop-s-init c n h = c.own_inks-inks.ensures n h ∙ ruled_none c.args.shapes.now c.args.spans.now c.args.frame c.args.found.now n
 
 pub loop-s-preserved : goal.loop-s-preserved
 loop-s-preserved c n h = ruled_more c.args.shapes.now c.args.spans.now c.args.frame c.args.found.now c.loop-s.s n _ c.pick.result _ _ c.loop-s-test.true (c.of-listed.ensures c.loop-s.s) c.pick.ensures (c.rule.ensures n h) (c.loop-s.invariant n h)

@@ -18,7 +18,7 @@ loop-n-preserved c k h =
     (c.of-listed.ensures c.loop-n.n)
     c.pick.ensures
     c.at.ensures
-    (c.lay-placed.ensures k h)
+    (c.lay_placed.ensures k h)
     (c.loop-n.invariant k h)
 
 pub returns : goal.returns

@@ -6,8 +6,8 @@ use Rattle.node_rows.specs.Nodes.{Ready, Placed}
 use Rattle.node_rows.proofs.Children.{Child, child_placed}
 use Rattle.rtree.proofs.cut.+cut.Goals as goal
 
-pub returns-then-cut-leaf : goal.returns-then-cut-leaf
-returns-then-cut-leaf g t c = ?
+pub returns-then-cut_leaf : goal.returns-then-cut_leaf
+returns-then-cut_leaf g t c = ?
 
 pub returns-then-height-eq0 : goal.returns-then-height-eq0
 returns-then-height-eq0 g t c = ?

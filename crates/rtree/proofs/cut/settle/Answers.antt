@@ -2,8 +2,8 @@ use Rattle.std.proofs.Common.{◌≡◌, refl, ◌∙◌, arith}
 use Rattle.node_rows.proofs.Gathering.{freed_ready}
 use Rattle.rtree.proofs.cut.settle.Goals as goal
 
-pub take-out-requires : goal.take-out-requires
-take-out-requires g c =
+pub take_out-requires : goal.take_out-requires
+take_out-requires g c =
     let freed = c.gather-total.ensures.freed in
     record {
       ready = freed_ready c.args.places.now freed c.requires.ready (c.gather-total.auto.counts ∙ c.requires.ready.wide);
@@ -17,7 +17,7 @@ returns-then-counts-child-lt3 g c = record {
     between = c.gather-total.new.counts;
     wide = c.gather-total.auto.counts ∙ c.requires.ready.wide;
     freed = c.gather-total.ensures.freed;
-    taken = c.take-out.ensures;
+    taken = c.take_out.ensures;
     gathered = c.gather-total.ensures.gathered;
   };
   enough = λ l. absurd (let s = c.if-counts-child-lt3.true in omega arith);

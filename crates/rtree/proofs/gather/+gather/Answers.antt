@@ -39,8 +39,8 @@ write-requires g t c =
     free c.args.places.now c.args.counts.now c.args.height c.args.at c.args.again.now c.args.many c.loop-i.i c.loop-i.counts c.loop-i.again c.loop-i.next
     c.read-item.result c.requires.ready c.requires.placed c.loop-i-test.true c.read-item.ensures c.loop-i.invariant c.if-height-eq0.true (omega (arith, c.requires.room, l))
 
-pub overflow-add-next : goal.overflow-add-next
-overflow-add-next g t c =
+pub overflow_add-next : goal.overflow_add-next
+overflow_add-next g t c =
     let l : length c.loop-i.again ≡ length c.args.again.now = c.loop-i.auto.again in
     let k = free c.args.places.now c.args.counts.now c.args.height c.args.at c.args.again.now c.args.many c.loop-i.i c.loop-i.counts c.loop-i.again c.loop-i.next
     c.read-item.result c.requires.ready c.requires.placed c.loop-i-test.true c.read-item.ensures c.loop-i.invariant c.if-height-eq0.true (omega (arith, c.requires.room, l)) in
@@ -60,12 +60,12 @@ loop-i-preserved g t c =
     let W : List ℕ → List (Entry g.row.M.Denot) → ℕ → Type 0 = λ x y z. Walked places counts c.args.height c.args.at c.args.again.now c.args.many (c.loop-i.i + 1) x y z in
     elim c.if-height-eq0.branch [
       | then-height-eq0 w ↦
-          subst₃ W (sym w.counts-is) (sym (w.again-is ∙ w.write.ensures)) (sym w.next_is)
+          subst₃ W (sym w.counts-is) (sym (w.again-is ∙ w.write.ensures)) (sym w.next-is)
           (more places counts c.args.height c.args.at c.args.again.now c.args.many c.loop-i.i c.loop-i.counts c.loop-i.again c.loop-i.next
           c.read-item.result c.requires.ready c.requires.placed c.loop-i-test.true c.read-item.ensures c.loop-i.invariant w.if-height-eq0.true (omega (arith, c.requires.room, c.loop-i.auto.again)))
       | else-height-eq0 w ↦
           let d = child c.loop-i.i c.read-item.result w.if-height-eq0.false c.requires.ready c.requires.placed c.loop-i-test.true c.read-item.ensures in
-          subst₃ W (sym w.counts-is) (sym w.again-is) (sym w.next_is) (walked_inner d c.loop-i.invariant w.gather-next.ensures.freed w.gather-next.ensures.gathered)
+          subst₃ W (sym w.counts-is) (sym w.again-is) (sym w.next-is) (walked_inner d c.loop-i.invariant w.gather-next.ensures.freed w.gather-next.ensures.gathered)
     ]
 
 pub returns : goal.returns

@@ -17,8 +17,8 @@ returns-then-height-eq0 g t c = inserted_leaf g.M.Measured.measure g.M.Extent.jo
 pub chosen-requires : goal.chosen-requires
 chosen-requires g t c = record { ready = c.requires.ready; there = c.requires.placed.there; full = inner_count c.requires.ready c.requires.placed (omega (arith, c.if-height-eq0.false)) }
 
-pub overflow-add-place : goal.overflow-add-place
-overflow-add-place g t c = omega (arith, c.chosen.ensures.below, c.requires.ready.within c.args.at, c.requires.placed.there)
+pub overflow_add-place : goal.overflow_add-place
+overflow_add-place g t c = omega (arith, c.chosen.ensures.below, c.requires.ready.within c.args.at, c.requires.placed.there)
 
 pub read-requires : goal.read-requires
 read-requires g t c = omega (arith, c.chosen.ensures.below, c.requires.ready.within c.args.at, c.requires.placed.there, c.requires.ready.long)

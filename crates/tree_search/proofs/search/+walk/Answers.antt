@@ -23,15 +23,15 @@ loop-item-preserved g t c =
     elim c.if-passes.branch [
       | then-passes+then-height-eq0 w ↦
           turn (d.code ∷ []) (codes_leaf f test h d w.if-height-eq0.true (sym w.if-passes.ensures)) c.loop-item.invariant
-          record { count = w.next_is ∙ w.put-next.ensures.count; wrote = w.list-is ∙ w.put-next.ensures.wrote }
+          record { count = w.next-is ∙ w.put-next.ensures.count; wrote = w.list-is ∙ w.put-next.ensures.wrote }
       | then-passes+else-height-eq0 w ↦
           let s : h ≡ suc (h - 1) = omega (arith, w.if-height-eq0.false) in
           turn (codes_below test places counts (h - 1) d.code) (codes_inner f test h (h - 1) d s (sym w.if-passes.ensures)) c.loop-item.invariant
-          record { count = w.next_is ∙ w.walk-next.ensures.count; wrote = w.list-is ∙ w.walk-next.ensures.wrote }
+          record { count = w.next-is ∙ w.walk-next.ensures.count; wrote = w.list-is ∙ w.walk-next.ensures.wrote }
       | else-passes w ↦
           let none = put_none c.loop-item.list c.loop-item.next (omega (arith, c.loop-item.invariant.count, c.loop-item.auto.list)) in
           turn [] (codes_missed f test h d (sym w.if-passes.ensures)) c.loop-item.invariant
-          record { count = w.next_is ∙ none.count; wrote = w.list-is }
+          record { count = w.next-is ∙ none.count; wrote = w.list-is }
     ]
 
 pub returns : goal.returns

@@ -1,5 +1,5 @@
 use Rattle.tiling.proofs.Places.{set_small}
 use Rattle.repaint.proofs.inks.Inks.put.Goals as goal
 
-pub invariant-of-self : goal.invariant-of-self
-invariant-of-self c = (set_small c.args.self.now.values c.args.k c.args.ink.value 15 c.args.ink.small c.args.self.now.small, tt)
+pub invariant_of-self : goal.invariant_of-self
+invariant_of-self c = record { small = set_small c.args.self.now.values c.args.k c.args.ink.value 15 c.args.ink.small c.args.self.now.small }

@@ -11,7 +11,7 @@ loop-row-preserved c t =
     let columns = leb (b.left / 16) (t % w) && ltb (t % w) ((c.min-right.result + 15) / 16) in
     marked_more (marked c.args.self.now t) (ltb t 256) (columns && (leb (b.top / 16) (t / w) && ltb (t / w) c.loop-row.row)) (eqb c.loop-row.row (t / w) && columns) _ _ _
     (rows_more columns (t / w) (b.top / 16) c.loop-row.row c.loop-row.auto.row)
-    (c.mark-row.ensures t)
+    (c.mark_row.ensures t)
     (c.loop-row.invariant t)
 
 pub returns : goal.returns

@@ -19,11 +19,15 @@ add-height-requires g c =
     let room = standing_room least_root (λ h. omega arith) ready s in
     record { ready = ready; placed = s.placed; some = room.1; low = let d = room.0 in omega arith }
 
-pub invariant-of-self : goal.invariant-of-self
-invariant-of-self g c =
+pub invariant_of-self : goal.invariant_of-self
+invariant_of-self g c =
     let s = standing_out c.args.self.now.standing in
     let added = c.add-height.ensures.added in
-    (added.ready.wide, (added.ready.within, (∣ standing_added g.E.Measured.measure g.E.Extent.joined least_root (λ h. omega arith) (λ h. omega arith) s added c.if-self-ge-MOST.false ∣₁, tt)))
+    record {
+      wide = added.ready.wide;
+      within = added.ready.within;
+      standing = ∣ standing_added g.E.Measured.measure g.E.Extent.joined least_root (λ h. omega arith) (λ h. omega arith) s added c.if-self-ge-MOST.false ∣₁;
+    }
 
 pub returns : goal.returns
 returns g c =

@@ -4,13 +4,12 @@ use Rattle.node_rows.specs.Rows.{row}
 use Rattle.node_rows.proofs.Standings.{standing_new}
 use Rattle.rtree.proofs.tree.Tree.new.Goals as goal
 
-pub invariant-of-result : goal.invariant-of-result
-invariant-of-result g c =
+pub invariant_of-result : goal.invariant_of-result
+invariant_of-result g c =
     let places = c.new.result.places.now in
-    let zero = c.new.ensures.zero in (
-      c.new.ensures.wide,
-      (
-        (λ q. omega (arith, zero q)),
-        (∣ standing_new least_root (row places c.new.result.counts) refl (λ q. ap (λ n. take n (drop (8 * q) places)) (zero q)) ∣₁, tt),
-      ),
-    )
+    let zero = c.new.ensures.zero in
+    record {
+      wide = c.new.ensures.wide;
+      within = λ q. omega (arith, zero q);
+      standing = ∣ standing_new least_root (row places c.new.result.counts) refl (λ q. ap (λ n. take n (drop (8 * q) places)) (zero q)) ∣₁;
+    }
