@@ -1,21 +1,19 @@
-//! Cutting a pair out of a tree.
-ghost use Rattle.std.specs.Prelude.{◌≡◌, ℕ, ◌+◌, ◌*◌, ◌<◌, ◌≤◌, true, false, length, Some, None, MatchOption, slice_index};
-ghost use Rattle.guttman.specs.Shape.{pairs, Filled};
-ghost use Rattle.std.specs.List.{AllByRecursion as All};
-ghost use Rattle.guttman.specs.Cutting.{cut as cut_of};
+//! What is left of a node after a pair was cut out below it.
+ghost use Rattle.std.specs.Prelude.{◌≡◌, ◌+◌, ◌<◌, ◌≤◌, length, slice_index};
+ghost use Rattle.guttman.specs.Shape.{pairs};
 ghost use Rattle.node_rows.specs.Rows.{row as row_of, below, used};
 ghost use Rattle.node_rows.specs.Nodes.{Off, Ready, Placed};
-ghost use Rattle.node_rows.specs.Removal.{Dropped, Stayed, WasCut};
+ghost use Rattle.node_rows.specs.Removal.{Dropped, Stayed};
 
 use crate::gather::gather;
-use crate::leaf::{cut_leaf, take_out};
-use crate::row::{bounds, put, read};
+use crate::leaf::take_out;
+use crate::row::{bounds, put};
 use extent::entry::Entry;
 use extent::extent::{Extent, Measured};
 
 /// After a pair was cut out below the entry at place i of the row `at`, whose node lies in the row `child`: with fewer than three entries
 /// that node is cut off, and else its entry has the join of its extents.
-fn settle<M: Measured + Copy>(
+pub(crate) fn settle<M: Measured + Copy>(
     places: &mut [Entry<M>],
     counts: &mut [u8],
     height: usize,
@@ -43,41 +41,4 @@ fn settle<M: Measured + Copy>(
     let extent = bounds(places, counts, child);
     put(places, 8 * at + i, extent, child);
     many
-}
-
-/// Cuts the first copy of a pair that a walk comes to out of the tree of this height at a row, if there is one; answers how many pairs of
-/// nodes that were cut off are in `again` then.
-pub(crate) fn cut<M: Measured + Copy>(
-    places: &mut [Entry<M>],
-    counts: &mut [u8],
-    height: usize,
-    at: usize,
-    pair: Entry<M>,
-    again: &mut [Entry<M>],
-) -> Option<usize>
-    requires ready { Ready places.old counts.old }
-    requires placed { Placed (row_of places.old counts.old) height at }
-    requires filled { All (Filled height) (below (row_of places.old counts.old) height at) }
-    requires room { length (pairs height (below (row_of places.old counts.old) height at)) ≤ length again.old }
-    ensures { MatchOption result ((cut_of M.Measured.measure M.Extent.joined M.Extent.covering pair.extent pair.code height (below (row_of places.old counts.old) height at) ≡ None) × (places.new ≡ places.old) × (counts.new ≡ counts.old)) (λ n. WasCut places.old counts.old places.new counts.new M.Measured.measure M.Extent.joined M.Extent.covering pair.extent pair.code height at again.new n) }
-{
-    if height == 0 {
-        if cut_leaf(places, counts, at, pair) {
-            return Some(0);
-        }
-        return None;
-    }
-    let size = counts[at] as usize;
-    for i in 0..size {
-        let item = read(places, 8 * at + i);
-        if item.extent.covers(&pair.extent) {
-            let child = item.code as usize;
-            let found = cut(places, counts, height - 1, child, pair, again);
-            if let Some(many) = found {
-                let total = settle(places, counts, height - 1, at, i, child, again, many);
-                return Some(total);
-            }
-        }
-    }
-    None
 }
