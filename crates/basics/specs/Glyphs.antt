@@ -1,5 +1,5 @@
 -- The glyph codes. Assumes nothing.
-use Rattle.std.specs.Prelude.{◌≡◌, ℕ, ◌<◌, List, length, Some, None, codes, Option, ◌≢◌, slice_index}
+use Rattle.std.specs.Prelude.{◌≡◌, ℕ, ◌<◌, List, Some, None, codes, Option, ◌≢◌, slice_index}
 
 -- the characters of the glyph codes 0 to 15, in this order
 abbrev pub characters : List ℕ

@@ -1,6 +1,6 @@
 -- The pixels of a line, after Bresenham: along the longer way one pixel a step, and along the shorter way
 -- the nearest. Assumes nothing.
-use Rattle.std.specs.Prelude.{ℕ, ◌+◌, ◌-◌, ◌*◌, ◌/◌, Bool, true, false, cond, ◌&&◌, ◌||◌, List, [], ◌∷◌, map, ◌==◌, nat_le}
+use Rattle.std.specs.Prelude.{ℕ, ◌+◌, ◌-◌, ◌*◌, ◌/◌, Bool, false, cond, ◌&&◌, ◌||◌, List, [], ◌∷◌, map, ◌==◌, nat_le}
 use Rattle.std.specs.List.{range_with_len}
 use Rattle.lines.specs.declared.line.Ends.{Ends}
 

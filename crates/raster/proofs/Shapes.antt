@@ -1,5 +1,5 @@
 -- A line's pixels lie in its bounding box. Assumes nothing.
-use Rattle.std.proofs.Common.{◌≡◌, ℕ, ◌+◌, min, max, true, ◌&&◌, ltb, leb, List, sym, ap, ◌∙◌, arith}
+use Rattle.std.proofs.Common.{◌≡◌, ℕ, ◌+◌, min, max, true, List, sym, ap, ◌∙◌, arith}
 use Rattle.std.proofs.lemmas.Bool.{and_from, le-leb, lt-ltb}
 use Rattle.raster.specs.declared.shape.Bounds.{Bounds}
 use Rattle.lines.specs.declared.line.Ends.{Ends}

@@ -1,4 +1,4 @@
-use Rattle.std.proofs.Common.{sym, ◌∙◌, arith}
+use Rattle.std.proofs.Common.{arith}
 use Rattle.lines.proofs.Lines.{pixels_length}
 use Rattle.lines.proofs.line.Ends.count.Goals as goal
 
