@@ -1,7 +1,7 @@
 -- Giving inks to a picture, one part after another. Assumes nothing.
-use Rattle.std.proofs.Common.{◌≡◌, ℕ, ◌+◌, ◌<◌, true, false, ◌&&◌, eqb, ltb, leb, Some, None, Option, unwrap_or, sym, refl, ap, ◌∙◌, arith}
+use Rattle.std.proofs.Common.{◌≡◌, ℕ, ◌+◌, true, ◌&&◌, eqb, ltb, leb, Some, None, Option, unwrap_or, sym, refl, ap, ◌∙◌, arith}
 use Rattle.std.proofs.lemmas.Bool.{and_parts, leb-true, ltb-true, eqb-true}
-use Rattle.surface.specs.Picture.{Picture, On, SameSides}
+use Rattle.surface.specs.Picture.{Picture, On}
 use Rattle.surface.specs.Calls.{OnRun}
 use Rattle.surface.proofs.Sides.{sides_then, on_again}
 use Rattle.cache.specs.Cached.{Given}

@@ -4,10 +4,9 @@ use Rattle.std.proofs.lemmas.Bool.{cases_Bool, cases_eq, cond-true, cond-false, 
 use Rattle.std.proofs.lemmas.Bool.Decides.{nat_tests}
 use Rattle.raster.specs.Sizes.{tile_of, place}
 use Rattle.raster.proofs.Tiles.{one_tile}
-use Rattle.surface.specs.Picture.{Picture, On, SameSides, Lawful}
-use Rattle.surface.specs.Calls.{Settled}
+use Rattle.surface.specs.Picture.{Picture, On}
 use Rattle.cache.specs.declared.slot.Slot.{Slot}
-use Rattle.cache.specs.Slots.{ink_at_lem, is_tile, tile_at, same_tile, Apart, held}
+use Rattle.cache.specs.Slots.{ink_at_lem, is_tile, tile_at, Apart, held}
 use Rattle.cache.specs.Cached.{cached, held_for, Given, slot_inks, run_inks}
 use Rattle.cache.proofs.Giving.{run_on}
 use Rattle.cache.proofs.Held.{held_none, held_only, held_beside, held_read, tile_read, apart_only}

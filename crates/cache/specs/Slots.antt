@@ -1,7 +1,6 @@
 -- The slots of a cache: each is empty, or holds a tile and an ink or nothing for each of its places. Assumes nothing.
-use Rattle.std.specs.Prelude.{◌≡◌, ℕ, zero, suc, Bool, true, false, cond, List, [], ◌∷◌, Some, None, Option, ◌==◌, ◌≢◌, slice_index_or}
+use Rattle.std.specs.Prelude.{◌≡◌, ℕ, zero, suc, Bool, false, cond, List, [], ◌∷◌, Some, None, Option, ◌==◌, ◌≢◌, slice_index_or}
 use Rattle.std.specs.Option.{option_map}
-use Rattle.raster.specs.declared.ink.Ink.{Ink}
 use Rattle.cache.specs.declared.slot.Slot.{Slot}
 
 -- the ink that a slot has at a place, if it has one

@@ -1,5 +1,5 @@
 -- The plane box of a shape. Assumes nothing.
-use Rattle.std.specs.Prelude.{◌≡◌, ℕ, ◌+◌, ◌<◌, ◌≤◌, Some, None, Option}
+use Rattle.std.specs.Prelude.{◌≡◌, ◌+◌, ◌<◌, ◌≤◌, Some, None, Option}
 use Rattle.raster.specs.declared.shape.Bounds.{Bounds}
 use Rattle.raster.specs.declared.shape.Shape.{Shape}
 use Rattle.raster.specs.Shapes.{bounds_of}

@@ -1,6 +1,5 @@
 -- Accepted calls, from the tests that the code makes. Assumes nothing.
-use Rattle.std.proofs.Common.{◌≡◌, ℕ, Bool, true, false, Some, None, Option, sym, ap, ◌∙◌, ap₂}
-use Rattle.painting.specs.Drawing.{Item, Turn}
+use Rattle.std.proofs.Common.{◌≡◌, ℕ, Bool, true, None, Option, ap, ◌∙◌}
 use Rattle.list_book.specs.Book.{Book, unless, left_by}
 
 pub unless_true : (t : Bool) (n : ℕ) (rest : Option ℕ) → t ≡ true → unless t n rest ≡ rest

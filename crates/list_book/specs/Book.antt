@@ -1,5 +1,5 @@
 -- The bookkeeping of a list of shapes: what each call answers, and what it leaves. Assumes nothing.
-use Rattle.std.specs.Prelude.{ℕ, zero, suc, ◌+◌, Bool, true, false, cond, not, ◌&&◌, is_some, Some, None, Option, ◌==◌, nat_le, nat_lt}
+use Rattle.std.specs.Prelude.{ℕ, Bool, true, false, cond, not, ◌&&◌, is_some, Some, None, Option, ◌==◌, nat_le, nat_lt}
 use Rattle.raster.specs.declared.shape.Shape.{Shape}
 use Rattle.raster.specs.Shapes.{drawable, on_sheet}
 use Rattle.painting.specs.Drawing.{Item, Turn}

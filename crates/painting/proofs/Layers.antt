@@ -1,5 +1,5 @@
 -- Laying all shapes by rising number gives the fresh painting. Assumes nothing.
-use Rattle.std.proofs.Common.{◌≡◌, ℕ, ◌+◌, Bool, true, false, cond, Some, None, Option, unwrap_or, sym, refl, ap, ◌∙◌, subst, ⊎_elim}
+use Rattle.std.proofs.Common.{◌≡◌, ℕ, ◌+◌, true, Some, None, unwrap_or, sym, refl, ap, ◌∙◌, subst, ⊎_elim}
 use Rattle.std.proofs.lemmas.Bool.{cases_Bool, cond-true, cond-false}
 use Rattle.raster.specs.Shapes.{covers}
 use Rattle.surface.specs.Picture.{Picture, On, SameSides, Lawful}

@@ -1,5 +1,5 @@
 -- Laying one area after another. Assumes nothing.
-use Rattle.std.proofs.Common.{◌≡◌, ℕ, zero, suc, ◌+◌, ◌-◌, ◌*◌, ◌/◌, ◌%◌, ◌^◌, Bool, true, false, ◌&&◌, ◌||◌, eqb, ltb, leb, List, [], ◌∷◌, ◌++◌, get_or, take, Option, sym, refl, ap, ◌∙◌, ap₂, ⊎_elim, add-one, arith}
+use Rattle.std.proofs.Common.{◌≡◌, ℕ, zero, suc, ◌+◌, ◌-◌, Bool, true, false, ◌&&◌, ◌||◌, eqb, ltb, leb, List, [], ◌∷◌, ◌++◌, take, Option, sym, refl, ap, ◌∙◌, ap₂, ⊎_elim, add-one, arith}
 use Rattle.std.proofs.lemmas.Bool.{cases_Bool, cases_eq, or_parts, both_ways}
 use Rattle.std.proofs.lemmas.Bool.Decides.{nat_tests}
 use Rattle.std.specs.List.{slice_get}
@@ -9,8 +9,8 @@ use Rattle.raster.specs.declared.shape.Shape.TheVariants.{Figure}
 use Rattle.raster.specs.Fonts.{lit}
 use Rattle.raster.specs.Lines.{among}
 use Rattle.raster.specs.Shapes.{covers}
-use Rattle.surface.specs.Picture.{Picture, On, SameSides}
-use Rattle.surface.proofs.Sides.{same_again, on_again, sides_then}
+use Rattle.surface.specs.Picture.{Picture, On}
+use Rattle.surface.proofs.Sides.{on_again, sides_then}
 use Rattle.painting.specs.Laid.{run_of, Laid}
 
 -- one area and then another is both

@@ -1,8 +1,8 @@
 -- The largest-numbered of several decides: the computing form agrees with the words. Assumes nothing.
-use Rattle.std.proofs.Common.{◌≡◌, ℕ, zero, suc, ◌+◌, ◌<◌, ◌≤◌, Bool, true, false, cond, ltb, Some, None, Option, unwrap_or, sym, refl, ap, ◌∙◌, subst, ⊎_elim, add-one, arith}
-use Rattle.std.proofs.lemmas.Bool.{cases_eq, cases_Bool, cond-true, cond-false, both_ways}
+use Rattle.std.proofs.Common.{◌≡◌, ℕ, zero, suc, ◌+◌, ◌<◌, true, Some, None, Option, unwrap_or, sym, refl, ap, ◌∙◌, subst, ⊎_elim, add-one, arith}
+use Rattle.std.proofs.lemmas.Bool.{cases_eq, cases_Bool, cond-true, cond-false}
 use Rattle.raster.specs.Shapes.{covers}
-use Rattle.painting.specs.Drawing.{Drawing, Item, Turn, topmost, holds, span_ink, ruling, shape_ink, painting, Rules, RulingInk, Covered, Fresh}
+use Rattle.painting.specs.Drawing.{Drawing, Item, Turn, topmost, holds, span_ink, ruling, shape_ink, painting, RulingInk, Fresh}
 
 pub topmost_none : (f : ℕ → Option ℕ) (d : ℕ) → topmost f d 0 ≡ d
 unfolding topmost

@@ -1,5 +1,5 @@
 -- The choosing steps of the split, over plain lists of sizes, growths and counts. Assumes nothing.
-use Rattle.std.specs.Prelude.{◌≡◌, ℕ, ◌+◌, ◌-◌, ◌*◌, ◌<◌, ◌≤◌, cond, ◌⊎◌, List, Some, None, Option, nat_le, nat_lt, slice_index}
+use Rattle.std.specs.Prelude.{◌≡◌, ℕ, ◌+◌, ◌-◌, ◌*◌, ◌<◌, ◌≤◌, cond, List, Some, None, Option, nat_le, nat_lt, slice_index}
 
 -- the group that grows less, then the smaller, then the one with fewer entries, then A; A is letter 65 and B 66
 abbrev pub group_for : ℕ → ℕ → ℕ → ℕ → ℕ → ℕ → ℕ

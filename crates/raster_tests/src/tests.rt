@@ -7,7 +7,7 @@ mod bounds;
 mod colours;
 mod covers;
 mod glyphs;
-mod lines;
+mod line_pixels;
 
 /// The number of a refusal, 0 for an answer.
 fn refused<T: Drop>(answer: Result<T, Refusal>) -> u8

@@ -10,8 +10,8 @@ use Rattle.raster.specs.Inks.{red_of, green_of, blue_of}
 use Rattle.raster.specs.Lines.{pixels}
 use Rattle.raster.specs.Sizes.{tile_of}
 use Rattle.extent.specs.declared.interval.Interval.{Interval}
-use Rattle.extent.specs.contracts.interval.IntervalExtent.TheImpl.{ghosts as interval-extent}
-use Rattle.extent.specs.contracts.interval.IntervalMeasured.TheImpl.{ghosts as interval-measured}
+use Rattle.extent.specs.contracts.interval.IntervalExtent.TheImpl.{ghosts as interval_extent}
+use Rattle.extent.specs.contracts.interval.IntervalMeasured.TheImpl.{ghosts as interval_measured}
 use Rattle.quadratic.specs.Split.{split9}
 use Rattle.painting.specs.Drawing.{Drawing, Item, Turn, ruling}
 
@@ -47,7 +47,7 @@ frame_only k = record { first = k; last = k }
 
 -- the letters of nine intervals, with the size and the join that intervals have
 abbrev pub interval_letters : (ℕ → Interval) → List ℕ
-interval_letters x = split9 interval-measured.measure interval-extent.joined x
+interval_letters x = split9 interval_measured.measure interval_extent.joined x
 
 -- the seven cases, each a fact about fixed numbers
 pub record ReferenceCases : Type 0 where

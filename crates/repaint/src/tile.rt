@@ -2,7 +2,7 @@ ghost use Rattle.std.specs.Prelude.{◌≡◌, ℕ, ◌+◌, ◌*◌, ◌/◌, �
 ghost use Rattle.std.specs.Option.{unwrap_or, option_map};
 ghost use Rattle.raster.specs.Shapes.{covers};
 ghost use Rattle.raster.specs.Sizes.{tile_of, place};
-ghost use Rattle.painting.specs.Drawing.{Drawing, painting as fresh-ink};
+ghost use Rattle.painting.specs.Drawing.{Drawing, painting as fresh_ink};
 ghost use Rattle.painting.specs.Scenes.{item};
 ghost use Rattle.book.specs.Tiles.{across};
 ghost use Rattle.tiling.specs.Places.{column_of, row_of};
@@ -61,7 +61,7 @@ pub fn tile_inks(
     t: u8,
 ) -> Inks
     ensures value { (k : ℕ) → k < 256 → slice_index result.values k ≡ laid font.now.rows shapes.now inks.now.values found.now (column_of width t k) (row_of width t k) }
-    ensures whole { (d : Drawing) (height : ℕ) → d.font ≡ font.now.rows → ShapesOf shapes.now d → RulingInks d inks.now.values → ShapesListed d width height t found.now → (x y : ℕ) → x < width → y < height → tile_of width x y ≡ t → slice_index result.values (place x y) ≡ fresh-ink d x y }
+    ensures whole { (d : Drawing) (height : ℕ) → d.font ≡ font.now.rows → ShapesOf shapes.now d → RulingInks d inks.now.values → ShapesListed d width height t found.now → (x y : ℕ) → x < width → y < height → tile_of width x y ≡ t → slice_index result.values (place x y) ≡ fresh_ink d x y }
 {
     let listed = Marks::of(found);
     let (column, row) = spot(width, t);

@@ -1,6 +1,6 @@
 //! The choices in one node: which entry takes an extent in, and the join of them all.
 ghost use Rattle.std.specs.Prelude.{◌≡◌, ◌<◌, length};
-ghost use Rattle.guttman.specs.Trees.{bound as join-of, sooner as comes-sooner, choose as choice-of};
+ghost use Rattle.guttman.specs.Trees.{bound as join_of, sooner as comes_sooner, choose as choice_of};
 ghost use Rattle.node_rows.specs.Nodes.{extents_in};
 
 use extent::entry::Entry;
@@ -8,7 +8,7 @@ use extent::extent::{Extent, Measured};
 
 /// Whether x takes e in before y does: it grows less, or as much and is smaller.
 fn sooner<M: Measured + Copy>(e: M, x: M, y: M) -> bool
-    ensures { result ≡ comes-sooner M.Measured.measure M.Extent.joined e x y }
+    ensures { result ≡ comes_sooner M.Measured.measure M.Extent.joined e x y }
 {
     let p = x.growth(&e);
     let q = y.growth(&e);
@@ -21,7 +21,7 @@ fn sooner<M: Measured + Copy>(e: M, x: M, y: M) -> bool
 /// The entry of a row that takes e in: the first that does so soonest.
 pub(crate) fn choose<M: Measured + Copy>(row: &[Entry<M>], e: M) -> usize
     requires { 0 < length row.now }
-    ensures is { result ≡ choice-of M.Measured.measure M.Extent.joined (extents_in row.now) e }
+    ensures is { result ≡ choice_of M.Measured.measure M.Extent.joined (extents_in row.now) e }
     ensures below { result < length row.now }
 {
     let mut best = 0;
@@ -36,7 +36,7 @@ pub(crate) fn choose<M: Measured + Copy>(row: &[Entry<M>], e: M) -> usize
 /// The join of the extents of a row.
 pub(crate) fn bound<M: Measured + Copy>(row: &[Entry<M>]) -> M
     requires { 0 < length row.now }
-    ensures { (d : _) → result ≡ join-of M.Measured.measure M.Extent.joined d (extents_in row.now) }
+    ensures { (d : _) → result ≡ join_of M.Measured.measure M.Extent.joined d (extents_in row.now) }
 {
     let mut all = row[0].extent;
     for i in 1..row.len() {

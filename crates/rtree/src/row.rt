@@ -1,6 +1,6 @@
 //! Reading and writing one row.
 ghost use Rattle.std.specs.Prelude.{◌≡◌, ℕ, ◌+◌, ◌*◌, ◌<◌, ◌≤◌, length, slice_index, slice_index_or, slice_set};
-ghost use Rattle.guttman.specs.Trees.{bound as join-of, choose as choice-of};
+ghost use Rattle.guttman.specs.Trees.{bound as join_of, choose as choice_of};
 ghost use Rattle.node_rows.specs.Rows.{row as row_of};
 ghost use Rattle.node_rows.specs.Nodes.{extents_in, spare, Ready, Pushed};
 
@@ -70,7 +70,7 @@ pub(crate) fn chosen<M: Measured + Copy>(
     requires ready { Ready places.now counts.now }
     requires there { at < 256 }
     requires full { 0 < slice_index counts.now at }
-    ensures is { result ≡ choice-of M.Measured.measure M.Extent.joined (extents_in (row_of places.now counts.now at)) e }
+    ensures is { result ≡ choice_of M.Measured.measure M.Extent.joined (extents_in (row_of places.now counts.now at)) e }
     ensures below { result < slice_index counts.now at }
 {
     let start = 8 * at;
@@ -83,7 +83,7 @@ pub(crate) fn bounds<M: Measured + Copy>(places: &[Entry<M>], counts: &[u8], at:
     requires ready { Ready places.now counts.now }
     requires there { at < 256 }
     requires full { 0 < slice_index counts.now at }
-    ensures { (d : _) → result ≡ join-of M.Measured.measure M.Extent.joined d (extents_in (row_of places.now counts.now at)) }
+    ensures { (d : _) → result ≡ join_of M.Measured.measure M.Extent.joined d (extents_in (row_of places.now counts.now at)) }
 {
     let start = 8 * at;
     let end = start + counts[at] as usize;

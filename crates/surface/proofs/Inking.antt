@@ -3,7 +3,6 @@ use Rattle.std.proofs.Common.{◌≡◌, ℕ, ◌+◌, ◌-◌, ◌*◌, ◌<◌
 use Rattle.std.proofs.lemmas.Nat.{mul-add-lt}
 use Rattle.std.proofs.lemmas.Bool.{cases_order, cases_lt}
 use Rattle.surface.specs.Bytes.{place, pictured, painted}
-use Rattle.surface.specs.Picture.{On}
 use Rattle.surface.specs.Calls.{OnRun, Accepts, Inked}
 use Rattle.surface.proofs.Writes.{get_or_painted_on, get_or_painted_before, get_or_painted_behind, drop_painted}
 

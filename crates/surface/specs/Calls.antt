@@ -1,5 +1,5 @@
 -- What each call of a surface answers, and what it does to the picture. Assumes nothing.
-use Rattle.std.specs.Prelude.{◌≡◌, ℕ, ◌+◌, ◌<◌, ◌≤◌, Bool, true, false, Ok, Err, Result}
+use Rattle.std.specs.Prelude.{◌≡◌, ℕ, ◌+◌, ◌<◌, ◌≤◌, false, Ok, Err, Result}
 use Rattle.raster.specs.declared.refusal.Refusal.{Refusal}
 use Rattle.raster.specs.Refusals.{number}
 use Rattle.surface.specs.Picture.{Picture, On, SameSides}

@@ -1,6 +1,6 @@
 -- What a surface holds and shows: its sides, and three facts for each of its pixels. What the functions
 -- give outside the sides means nothing. Assumes nothing.
-use Rattle.std.specs.Prelude.{◌≡◌, ℕ, ◌<◌, ◌≤◌, Bool, true, false}
+use Rattle.std.specs.Prelude.{◌≡◌, ℕ, ◌<◌, ◌≤◌, Bool, false}
 
 pub record Picture : Type 0 where
   pub wide : ℕ

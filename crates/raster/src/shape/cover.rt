@@ -1,7 +1,7 @@
 ghost use Rattle.std.specs.Prelude.{◌≡◌, ℕ, ◌-◌, true, ◌&&◌, List, nat_le};
 ghost use Rattle.basics.specs.Fonts.{lit};
 ghost use Rattle.basics.specs.Refusals.{Tested};
-ghost use Rattle.raster.specs.Shapes.{of_the, covers as covers-pixel, bounds_of, inside, drawable, on_sheet};
+ghost use Rattle.raster.specs.Shapes.{of_the, covers as covers_pixel, bounds_of, inside, drawable, on_sheet};
 
 use super::{Bounds, Cell, Rect, Shape};
 use basics::font::Font;
@@ -35,7 +35,7 @@ impl Cell {
 impl Shape {
     /// Whether the shape covers the pixel (x, y).
     pub fn covers(self, font: &Font, x: u16, y: u16) -> bool
-        ensures { result ≡ covers-pixel font.now.rows self x y }
+        ensures { result ≡ covers_pixel font.now.rows self x y }
     {
         match self {
             Shape::Box(rect) => rect.covers(x, y),
@@ -47,7 +47,7 @@ impl Shape {
     /// The bounding box, around every pixel that the shape covers.
     pub fn bounds(self) -> Bounds
         ensures value { result ≡ bounds_of self }
-        ensures around { (font : List ℕ) (x y : ℕ) → covers-pixel font self x y ≡ true → inside result x y ≡ true }
+        ensures around { (font : List ℕ) (x y : ℕ) → covers_pixel font self x y ≡ true → inside result x y ≡ true }
     {
         match self {
             Shape::Box(b) => Bounds {

@@ -1,6 +1,6 @@
 ghost use Rattle.std.specs.Prelude.{◌≡◌, ℕ, ◌<◌, length, OnOk, slice_index_or};
 ghost use Rattle.raster.specs.Fonts.{built_in};
-ghost use Rattle.raster.specs.Shapes.{covers as covers-pixel};
+ghost use Rattle.raster.specs.Shapes.{covers as covers_pixel};
 
 use raster::font::Font;
 use raster::shape::{Cell, Rect, Shape};
@@ -14,7 +14,7 @@ fn check_each(
     pixels: &[(u16, u16)],
     covered: bool,
 ) -> Result<(), Fail>
-    ensures { OnOk result ((k : ℕ) → k < length pixels.now → covers-pixel built_in shape (slice_index_or pixels.now k (0, 0)).0 (slice_index_or pixels.now k (0, 0)).1 ≡ covered) }
+    ensures { OnOk result ((k : ℕ) → k < length pixels.now → covers_pixel built_in shape (slice_index_or pixels.now k (0, 0)).0 (slice_index_or pixels.now k (0, 0)).1 ≡ covered) }
 {
     let font = Font::built_in();
     for (x, y) in pixels {

@@ -1,4 +1,4 @@
-use Rattle.std.proofs.Common.{◌≡◌, ◌<◌, length, None, refl, ap, ◌∙◌, arith, length-set, rules}
+use Rattle.std.proofs.Common.{◌<◌, length, None, refl, ap, ◌∙◌, arith, length-set, rules}
 use Rattle.std.proofs.lemmas.Bool.{eq-eqb}
 use Rattle.cache.specs.Slots.{tile_at, is_tile, same_tile}
 use Rattle.cache.proofs.Giving.{given_then}

@@ -1,4 +1,4 @@
-use Rattle.std.proofs.Common.{◌≡◌, ◌<◌, true, length, get_or, None, sym, refl, ap, ◌∙◌, arith, length-set, rules}
+use Rattle.std.proofs.Common.{◌≡◌, ◌<◌, true, length, get_or, None, sym, ap, ◌∙◌, arith, length-set, rules}
 use Rattle.std.proofs.lemmas.List.{get_or_default}
 use Rattle.raster.specs.Sizes.{tile_of}
 use Rattle.cache.specs.Slots.{tile_at, is_tile, same_tile}
