@@ -1,5 +1,5 @@
 -- The entries of a row that are shared out. Assumes nothing.
-use Rattle.std.proofs.Common.{◌≡◌, ℕ, ◌+◌, ◌*◌, ◌/◌, ◌<◌, ◌≤◌, Bool, true, false, cond, eqb, List, [], ◌∷◌, ◌++◌, length, get_or, take, drop, set, Some, None, sym, refl, ap, ◌∙◌, subst, inl, inr, arith, length-append, length-drop, length-set, length-take, get_or-drop, take_all, get_or-set_other, get_or-set_same}
+use Rattle.std.proofs.Common.{◌≡◌, ℕ, ◌+◌, ◌*◌, ◌<◌, ◌≤◌, Bool, true, false, cond, eqb, List, [], ◌∷◌, ◌++◌, length, get_or, take, drop, set, Some, None, sym, refl, ap, ◌∙◌, subst, inl, inr, arith, length-append, length-drop, length-set, length-take, get_or-drop, take_all, get_or-set_other}
 use Rattle.std.proofs.lemmas.List.{take_more, append-nil, length_push}
 use Rattle.std.proofs.lemmas.Bool.{cases_eq, eq-eqb, ne_eqb, lt-ltb, le-ltb}
 use Rattle.extent.specs.declared.entry.Entry.{Entry}
@@ -9,7 +9,7 @@ use Rattle.quadratic.proofs.Fair.{split9_fair}
 use Rattle.quadratic.proofs.Parts.{part_more, part_count}
 use Rattle.guttman.specs.Trees.{One, Two, add}
 use Rattle.node_rows.specs.Rows.{row}
-use Rattle.node_rows.specs.Nodes.{extents_in, Ready, Untouched, Pushed, Laid, Scattered, SetUp, Dealt, spare, idle}
+use Rattle.node_rows.specs.Nodes.{extents_in, Ready, Pushed, Laid, Scattered, SetUp, Dealt, spare, idle}
 use Rattle.node_rows.proofs.RowSet.{row_count, count_row, pushed_here, pushed_other, pushed_ready, pushed_count, pushed_untouched}
 use Rattle.node_rows.proofs.Spares.{spare_off, spare_set, spare_kept}
 

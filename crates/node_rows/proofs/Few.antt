@@ -1,5 +1,5 @@
 -- A walk comes to no more pairs than a tree stores, so that a list with a place for each of these has room. Assumes nothing.
-use Rattle.std.proofs.Common.{◌≡◌, ℕ, zero, suc, ◌+◌, ◌≤◌, min, Bool, true, false, cond, List, [], ◌∷◌, ◌++◌, length, drop, sym, refl, ap, ◌∙◌, subst, inl, inr, arith, length-append}
+use Rattle.std.proofs.Common.{◌≡◌, ℕ, zero, suc, ◌+◌, ◌≤◌, min, Bool, List, [], ◌∷◌, ◌++◌, length, drop, ap, ◌∙◌, arith, length-append}
 use lib.ListN.{length-map}
 use lib.Seq.{sets, sets-eq}
 use Rattle.std.specs.List.{flat_map}

@@ -7,12 +7,12 @@ use Rattle.std.proofs.ByRecursion.{All-append, All-weaker}
 use Rattle.std.proofs.lemmas.Bool.{cases_eq}
 use Rattle.extent.specs.declared.entry.Entry.{Entry}
 use Rattle.quadratic.proofs.Perms.{joined_append}
-use Rattle.guttman.specs.Trees.{Item, Tree}
+use Rattle.guttman.specs.Trees.{Tree}
 use Rattle.guttman.specs.Shape.{leaves, pairs}
 use Rattle.node_rows.specs.Rows.{row, below, under, used}
 use Rattle.node_rows.specs.Nodes.{seen, Off, Distinct, Live, Ready, Placed}
 use Rattle.node_rows.specs.Removal.{as_pair, Freed, Gathered}
-use Rattle.node_rows.proofs.RowSet.{count_short, count_row}
+use Rattle.node_rows.proofs.RowSet.{count_short}
 use Rattle.node_rows.proofs.Separate.{all_unappend, apart_flip, distinct_parts}
 use Rattle.node_rows.proofs.Frames.{same_seen, under_append}
 use Rattle.node_rows.proofs.Plans.{still_live}

@@ -1,5 +1,5 @@
 -- The choices in one row, entry after entry. Assumes nothing.
-use Rattle.std.proofs.Common.{◌≡◌, ℕ, ◌+◌, ◌<◌, ◌≤◌, Bool, true, false, List, [], ◌∷◌, ◌++◌, length, get_or, take, sym, refl, ap, ◌∙◌, zero-add, arith, length-take, take_all}
+use Rattle.std.proofs.Common.{◌≡◌, ℕ, ◌+◌, ◌<◌, ◌≤◌, true, false, List, [], ◌∷◌, ◌++◌, length, get_or, take, sym, refl, ap, ◌∙◌, zero-add, arith, length-take, take_all}
 use lib.ListN.{length-map}
 use Rattle.std.specs.List.{range_with_len as counting, best_of}
 use Rattle.std.proofs.lemmas.List.MinMax.{best_of_keeps, best_of_takes}

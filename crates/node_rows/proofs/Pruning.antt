@@ -1,5 +1,5 @@
 -- The rows of a node, from those of its child that has fewer. Assumes nothing.
-use Rattle.std.proofs.Common.{◌≡◌, ℕ, suc, ◌⊎◌, List, [], ◌∷◌, ◌++◌, map, length, get_or, sym, refl, ap, ◌∙◌, subst, inl, inr}
+use Rattle.std.proofs.Common.{◌≡◌, ℕ, suc, List, ◌∷◌, ◌++◌, map, length, sym, ap, ◌∙◌, subst, inl, inr}
 use mathlib.Core.List.Permᴰ
 use mathlib.Core.List.{Permᴰ}
 use Rattle.std.specs.List.{flat_map, AllByRecursion as All}
@@ -7,13 +7,12 @@ use Rattle.std.proofs.ByRecursion.{All-append, All-weaker}
 use Rattle.extent.specs.declared.entry.Entry.{Entry}
 use Rattle.quadratic.proofs.Perms.{perm_same, perm_all}
 use Rattle.guttman.proofs.Lists.{all_both}
-use Rattle.node_rows.specs.Rows.{row, under, used}
+use Rattle.node_rows.specs.Rows.{under, used}
 use Rattle.node_rows.specs.Nodes.{Off, Distinct, Live}
-use Rattle.node_rows.specs.Removal.{Freed, Pruned}
+use Rattle.node_rows.specs.Removal.{Pruned}
 use Rattle.node_rows.proofs.Separate.{joined_map, all_unappend, Apart, apart_flip, distinct_parts, distinct_append, perm_distinct}
 use Rattle.node_rows.proofs.Frames.{same_seen, under_append, perm_under}
 use Rattle.node_rows.proofs.Plans.{still_live}
-use Rattle.node_rows.proofs.RowSet.{count_short}
 
 -- ---- an inner node keeps its entries C; its child d has the rows of rs left, for which it has the entries D
 

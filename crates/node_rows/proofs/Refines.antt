@@ -7,12 +7,12 @@ use Rattle.std.specs.List.{flat_map, AllByRecursion as All}
 use Rattle.std.proofs.lemmas.List.{append-nil, map-append, get_or-map, take-map, drop-map}
 use Rattle.extent.specs.declared.entry.Entry.{Entry}
 use Rattle.quadratic.proofs.Perms.{perm_same, map_map}
-use Rattle.guttman.specs.Trees.{Item, Tree, Grown, One, Two, extents, bound, choose, add, renewed, insert}
+use Rattle.guttman.specs.Trees.{Tree, One, Two, extents, bound, choose, add, renewed, insert}
 use Rattle.guttman.specs.Growth.{flat, mapped}
 use Rattle.guttman.proofs.Adding.{add_perm, add_mapped}
 use Rattle.node_rows.specs.Rows.{row, below, under, used}
-use Rattle.node_rows.specs.Nodes.{extents_in, seen, Off, Distinct, Live, Ready, Placed, Untouched, halves, rows_of, trees_of, Dealt, Kept, Inserted, spare}
-use Rattle.node_rows.proofs.RowSet.{row_set_here, row_set_other, set_untouched, length_row, count_row, count_short}
+use Rattle.node_rows.specs.Nodes.{extents_in, seen, Off, Ready, Untouched, halves, rows_of, trees_of, Dealt, Kept, Inserted, spare}
+use Rattle.node_rows.proofs.RowSet.{row_set_here, row_set_other, set_untouched, count_short}
 use Rattle.node_rows.proofs.Separate.{all_unappend}
 use Rattle.node_rows.proofs.Frames.{same_seen, under_append}
 use Rattle.node_rows.proofs.Plans.{Planned, kept_planned, planned_same, planned_off, planned_leaf, planned_inner, planned_child, still}

@@ -1,5 +1,5 @@
 -- What is cut out of the rows is what is cut out of the tree. Assumes nothing.
-use Rattle.std.proofs.Common.{◌≡◌, ℕ, suc, ◌+◌, ◌-◌, ◌*◌, ◌/◌, ◌<◌, ◌≤◌, Bool, true, false, cond, not, ltb, List, [], ◌∷◌, ◌++◌, map, length, get_or, take, drop, set, Some, None, Option, sym, refl, ap, ◌∙◌, subst, inl, inr, arith, length-append, length-set, length-take, get_or-set_other, get_or-take, get_or-set_same, take-take}
+use Rattle.std.proofs.Common.{◌≡◌, ℕ, suc, ◌+◌, ◌-◌, ◌*◌, ◌/◌, ◌<◌, ◌≤◌, Bool, true, false, cond, not, List, [], ◌∷◌, ◌++◌, map, length, get_or, take, drop, set, Some, None, Option, sym, refl, ap, ◌∙◌, subst, inl, inr, arith, length-append, length-set, length-take, get_or-set_other, get_or-take, get_or-set_same, take-take}
 use mathlib.Core.List.{Permᴰ}
 use lib.ListN.{length-map}
 use lib.Seq.{drop-set-add, take-set-lt, set_split}
@@ -13,17 +13,17 @@ use Rattle.quadratic.proofs.Perms.{perm_same, joined_append}
 use Rattle.guttman.specs.Trees.{Item, Tree, extents, bound}
 use Rattle.guttman.specs.Shape.{pairs}
 use Rattle.guttman.specs.Deletion.{Loose, loose_pairs}
-use Rattle.guttman.specs.Cutting.{without, first_some, Remains, is_pair, cut, cut_at, cut_inner, cut_leaf}
+use Rattle.guttman.specs.Cutting.{without, Remains, is_pair, cut, cut_at, cut_inner, cut_leaf}
 use Rattle.guttman.proofs.Leaving.{perm_without, without_is, without_map, first_some_found, first_some_missed}
 use Rattle.node_rows.specs.Rows.{row, below, under, used}
-use Rattle.node_rows.specs.Nodes.{seen, extents_in, Off, Distinct, Live, Ready, Untouched}
-use Rattle.node_rows.specs.Removal.{as_pair, before_pair, Freed, Gathered, Pruned, TakenOut, Dropped, Reduced, Stayed, WasCut}
+use Rattle.node_rows.specs.Nodes.{seen, Off, Live, Ready}
+use Rattle.node_rows.specs.Removal.{as_pair, before_pair, Gathered, Pruned, TakenOut, Dropped, Stayed, WasCut}
 use Rattle.node_rows.proofs.RowSet.{row_set_here, row_set_other, set_untouched, row_count, get_or_row, count_row, count_short}
 use Rattle.node_rows.proofs.Separate.{all_unappend}
 use Rattle.node_rows.proofs.Frames.{same_seen, under_append}
-use Rattle.node_rows.proofs.Children.{Child, child_in, child_is, child_perm, child_full, child_apart, child_live, child_own}
+use Rattle.node_rows.proofs.Children.{Child, child_in, child_is, child_perm, child_apart, child_live, child_own}
 use Rattle.node_rows.proofs.Refines.{bound_seen}
-use Rattle.node_rows.proofs.Gathering.{freed_ready, freed_row, freed_empty}
+use Rattle.node_rows.proofs.Gathering.{freed_row, freed_empty}
 use Rattle.node_rows.proofs.Pruning.{pruned_inner, pruned_live, pruned_still, pruned_d}
 
 -- ---- an entry leaves a row

@@ -1,12 +1,12 @@
 -- After a pair was cut out below an entry: how much is left of the entry's node, and what was taken down. Assumes nothing.
-use Rattle.std.proofs.Common.{◌≡◌, ℕ, suc, ◌+◌, ◌-◌, ◌*◌, ◌<◌, ◌≤◌, Bool, true, List, [], ◌∷◌, ◌++◌, map, length, get_or, sym, refl, ap, ◌∙◌, subst, arith, length-append}
+use Rattle.std.proofs.Common.{◌≡◌, ℕ, suc, ◌+◌, ◌-◌, ◌<◌, ◌≤◌, Bool, true, List, length, get_or, sym, ap, ◌∙◌, subst, arith, length-append}
 use lib.ListN.{length-map}
 use Rattle.std.specs.List.{AllByRecursion as All}
 use Rattle.std.proofs.lemmas.List.{get_or-map}
 use Rattle.std.proofs.ByRecursion.{All-get_or}
 use Rattle.extent.specs.declared.entry.Entry.{Entry}
 use Rattle.guttman.specs.Trees.{Tree}
-use Rattle.guttman.specs.Shape.{Sized, Filled, Shaped, pairs}
+use Rattle.guttman.specs.Shape.{Filled, Shaped, pairs}
 use Rattle.guttman.specs.Laws.{Joining}
 use Rattle.guttman.specs.Deletion.{loose_pairs, CutOut}
 use Rattle.guttman.proofs.Lists.{perm_length}
@@ -14,7 +14,7 @@ use Rattle.guttman.proofs.Losing.{cut_pairs}
 use Rattle.guttman.proofs.Remaining.{cut_shaped}
 use Rattle.guttman.proofs.Cutting.{cut_cuts}
 use Rattle.node_rows.specs.Rows.{row, below, used}
-use Rattle.node_rows.specs.Nodes.{seen, Off, Ready, Placed}
+use Rattle.node_rows.specs.Nodes.{seen, Off, Placed}
 use Rattle.node_rows.specs.Removal.{WasCut}
 use Rattle.node_rows.proofs.RowSet.{count_short}
 use Rattle.node_rows.proofs.Children.{Child, child_in, child_is, child_apart, child_own, child_placed}

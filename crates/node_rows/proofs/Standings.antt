@@ -1,16 +1,16 @@
 -- A tree in rows, call after call: there is always a row left, and an insertion leaves such a tree. Assumes nothing.
-use Rattle.std.proofs.Common.{◌≡◌, ℕ, zero, suc, ◌+◌, ◌-◌, ◌*◌, ◌<◌, ◌≤◌, Bool, List, [], ◌∷◌, length, get_or, sym, refl, ap, ◌∙◌, subst, inl, inr, arith}
+use Rattle.std.proofs.Common.{◌≡◌, ℕ, zero, suc, ◌+◌, ◌<◌, ◌≤◌, Bool, List, [], ◌∷◌, length, get_or, sym, refl, ap, ◌∙◌, subst, inl, inr, arith}
 use mathlib.Core.List.{Permᴰ}
 use mathlib.Core.Logic.{∥∥₁_elim}
 use native.Mathlib.Bridge.{le_prop}
 use native.Mathlib.Nat.{ℕ_set}
 use std.HLevel.{¬_prop}
-use Rattle.std.specs.List.{flat_map, AllByRecursion as All}
+use Rattle.std.specs.List.{AllByRecursion as All}
 use Rattle.std.proofs.lemmas.List.{get_or_past}
 use Rattle.std.proofs.lemmas.Bool.{cases_lt}
 use Rattle.extent.specs.declared.entry.Entry.{Entry}
-use Rattle.guttman.specs.Trees.{Item, Tree, inserted}
-use Rattle.guttman.specs.Shape.{Filled, Shaped, Tight, least_root, slack_root, pairs, nodes}
+use Rattle.guttman.specs.Trees.{Item, Tree}
+use Rattle.guttman.specs.Shape.{Filled, Shaped, Tight, slack_root, pairs}
 use Rattle.guttman.specs.Laws.{Joining}
 use Rattle.guttman.proofs.Counting.{nodes_slack_pairs, six_deep}
 use Rattle.guttman.proofs.Gaining.{inserted_pairs}

@@ -1,6 +1,6 @@
 -- What becomes of the rows of a tree when a pair is cut out of it: entries leave a row, rows are given up, and pairs are taken down to be
 -- inserted again. Assumes nothing.
-use Rattle.std.specs.Prelude.{◌≡◌, ℕ, suc, ◌+◌, ◌*◌, ◌<◌, ◌≤◌, Bool, not, ◌⊎◌, List, [], ◌∷◌, ◌++◌, map, length, take, Some, ◌≢◌, slice_index, slice_set}
+use Rattle.std.specs.Prelude.{◌≡◌, ℕ, ◌+◌, ◌*◌, Bool, not, ◌⊎◌, List, [], ◌∷◌, ◌++◌, map, length, take, Some, ◌≢◌, slice_index, slice_set}
 use Rattle.std.specs.List.{prefix_len, AllByRecursion as All}
 use Rattle.extent.specs.declared.entry.Entry.{Entry}
 use Rattle.guttman.specs.Trees.{Tree, bound}

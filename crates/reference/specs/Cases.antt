@@ -2,7 +2,6 @@
 -- nine intervals. Assumes nothing.
 use Rattle.std.specs.Prelude.{◌≡◌, ℕ, ◌+◌, ◌*◌, cond, List, [], ◌∷◌, ◌++◌, replicate, Some, None, Option, ◌==◌, slice_index}
 use Rattle.raster.specs.declared.shape.Ends.{Ends}
-use Rattle.raster.specs.declared.shape.Shape.{Shape}
 use Rattle.raster.specs.declared.shape.Shape.TheVariants.{Box}
 use Rattle.raster.specs.Fonts.{built_in}
 use Rattle.raster.specs.Glyphs.{GlyphOf}

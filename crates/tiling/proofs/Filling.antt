@@ -1,5 +1,5 @@
 -- A tile whose places were all handed down. Assumes nothing.
-use Rattle.std.proofs.Common.{◌≡◌, ℕ, ◌/◌, ◌%◌, ◌<◌, List, get_or, sym, refl, ap, ◌∙◌, arith}
+use Rattle.std.proofs.Common.{◌≡◌, ℕ, ◌/◌, ◌%◌, ◌<◌, List, get_or, sym, ap, ◌∙◌, arith}
 use Rattle.raster.specs.Sizes.{tile_of, place}
 use Rattle.raster.proofs.Tiles.{tile_parts, parts_tile}
 use Rattle.surface.specs.Picture.{Picture, On}

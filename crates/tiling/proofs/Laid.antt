@@ -1,10 +1,10 @@
 -- The inks of a tile by the shapes that are listed. Assumes nothing.
-use Rattle.std.proofs.Common.{◌≡◌, ℕ, ◌+◌, ◌*◌, ◌/◌, ◌%◌, ◌<◌, Bool, true, false, cond, ◌&&◌, ltb, List, get_or, Some, None, Option, unwrap_or, sym, refl, ap, ◌∙◌, ap₂, arith}
+use Rattle.std.proofs.Common.{◌≡◌, ℕ, ◌+◌, ◌*◌, ◌/◌, ◌%◌, ◌<◌, Bool, cond, ◌&&◌, ltb, List, get_or, Some, None, Option, unwrap_or, sym, refl, ap, ◌∙◌, ap₂, arith}
 use Rattle.std.specs.Option.{option_map}
 use Rattle.raster.specs.Sizes.{tile_of, place}
 use Rattle.raster.proofs.Tiles.{tile_parts}
 use Rattle.painting.specs.declared.scene.Placed.{Placed}
-use Rattle.painting.specs.Drawing.{Drawing, Item, topmost, ruling, shape_ink, painting}
+use Rattle.painting.specs.Drawing.{Drawing, Item, ruling, shape_ink, painting}
 use Rattle.painting.specs.Scenes.{item, at_number}
 use Rattle.painting.proofs.Topmost.{topmost_none, topmost_more, topmost_same}
 use Rattle.book.specs.Tiles.{across, meets}

@@ -1,4 +1,4 @@
-use Rattle.std.proofs.Common.{◌≡◌, refl, ◌∙◌, arith}
+use Rattle.std.proofs.Common.{refl, ◌∙◌, arith}
 use Rattle.node_rows.proofs.Gathering.{freed_ready}
 use Rattle.rtree.proofs.cut.settle.Goals as goal
 

@@ -1,4 +1,4 @@
-use Rattle.std.proofs.Common.{◌≡◌, ℕ, suc, ◌+◌, ◌-◌, ◌*◌, ◌<◌, List, [], ◌∷◌, length, get_or, set, sym, refl, subst, arith, length-set}
+use Rattle.std.proofs.Common.{◌≡◌, ℕ, suc, ◌+◌, ◌-◌, ◌*◌, ◌<◌, List, [], ◌∷◌, get_or, sym, refl, subst, arith}
 use Rattle.extent.specs.declared.entry.Entry.{Entry}
 use Rattle.node_rows.specs.Rows.{row}
 use Rattle.node_rows.specs.Nodes.{Ready, Placed, Dealt, Inserted}

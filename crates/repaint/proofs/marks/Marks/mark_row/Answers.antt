@@ -1,4 +1,4 @@
-use Rattle.std.proofs.Common.{◌≡◌, ◌+◌, ◌*◌, ◌/◌, ◌%◌, ◌&&◌, ◌||◌, eqb, ltb, leb, ap, ◌∙◌, arith}
+use Rattle.std.proofs.Common.{◌+◌, ◌*◌, ◌/◌, ◌%◌, ◌&&◌, ◌||◌, eqb, ltb, leb, ap, ◌∙◌, arith}
 use Rattle.tiling.proofs.Marking.{marked_more, columns_more}
 use Rattle.repaint.specs.Marked.{marked}
 use Rattle.repaint.proofs.marks.Marks.mark_row.Goals as goal

@@ -1,4 +1,4 @@
-use Rattle.std.proofs.Common.{◌≡◌, ◌<◌, ◌≤◌, sym, refl, inl, inr, arith}
+use Rattle.std.proofs.Common.{refl, inr, arith}
 use Rattle.guttman.specs.Shape.{least_root}
 use Rattle.guttman.specs.Laws.{Joining}
 use Rattle.node_rows.specs.Nodes.{Ready}
