@@ -1,5 +1,4 @@
 ghost use Rattle.std.specs.Prelude.{◌≡◌, ℕ, ◌+◌, ◌%◌, ◌^◌, ◌<◌, ◌≤◌, ◌⊎◌};
-ghost use Rattle.cache.specs.Slots.{ink_at_lem};
 ghost use Rattle.cache.specs.Cached.{Given, slot_inks, part_inks};
 
 use crate::slot::Slot;

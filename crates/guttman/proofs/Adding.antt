@@ -3,7 +3,7 @@ use Rattle.std.proofs.Common.{◌≡◌, ℕ, ◌≤◌, Bool, true, false, cond
 use mathlib.Core.List.Permᴰ
 use mathlib.Core.List.{Permᴰ}
 use lib.ListN.{length-map}
-use Rattle.std.specs.List.{AllByRecursion as All}
+use Rattle.std.specs.List.{AllByRecursion}
 use Rattle.std.proofs.lemmas.List.{map-append}
 use Rattle.std.proofs.ByRecursion.{All-push}
 use Rattle.std.proofs.lemmas.Bool.{cond_both, ltb-true, ltb-false}
@@ -48,10 +48,10 @@ module _ {E : Type 0} (size : E → ℕ) (join : E → E → E) where
         let l = ltb-false (length es) 8 e in
         ((omega arith, omega arith), (omega arith, omega arith)))
 
-    pub add_all : (P : Z → Type 0) → All P es → P y → AllGrown P (add size join extent es y)
+    pub add_all : (P : Z → Type 0) → AllByRecursion P es → P y → AllGrown P (add size join extent es y)
     unfolding add
     add_all P all py =
-        let a : All P nine = All-push P es y all py in
+        let a : AllByRecursion P nine = All-push P es y all py in
         cond_both (ltb (length es) 8) (One nine) (Two (part true letters nine) (part false letters nine)) (AllGrown P) (λ e. a) (λ e. (part_all P true letters nine a, part_all P false letters nine a))
 
   -- entries may be read another way, as long as their extents are the same

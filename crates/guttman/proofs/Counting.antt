@@ -1,7 +1,7 @@
 -- How many nodes a tree has for its pairs, and how deep it is. Assumes nothing.
 use Rattle.std.proofs.Common.{◌≡◌, ℕ, zero, suc, ◌+◌, ◌*◌, ◌^◌, ◌≤◌, List, [], ◌∷◌, length, sum_by, refl, ap, ◌∙◌, inl, inr, mul-le-mul_right, suc-mul, zero-mul, arith, length-append}
 use native.Mathlib.Nat.{pow-succ', pow-le-pow_right}
-use Rattle.std.specs.List.{flat_map, AllByRecursion as All}
+use Rattle.std.specs.List.{flat_map, AllByRecursion}
 use Rattle.std.proofs.lemmas.List.Sums.{sum_by-cons}
 use Rattle.std.proofs.lemmas.Bool.{cases_lt}
 use Rattle.guttman.specs.Trees.{Item, Tree}
@@ -12,7 +12,7 @@ power_from k h l = pow-le-pow_right (omega arith) l
 
 module _ {E : Type 0} where
   -- twice the nodes under some entries, and one for each entry, is at most the pairs, if it is so for each
-  entries_pairs : (h : ℕ) → ((p : E × Item E h) → Filled h p → 2 * nodes_of h p + 1 ≤ length (leaves h p)) → (es : List (E × Item E h)) → All (Filled h) es
+  entries_pairs : (h : ℕ) → ((p : E × Item E h) → Filled h p → 2 * nodes_of h p + 1 ≤ length (leaves h p)) → (es : List (E × Item E h)) → AllByRecursion (Filled h) es
       → 2 * sum_by (nodes_of h) es + length es ≤ length (flat_map (leaves h) es)
   entries_pairs h each [] w = omega arith
   entries_pairs h each (p ∷ es) w =
@@ -31,7 +31,7 @@ module _ {E : Type 0} where
       omega arith
 
   -- in a tree it depends on the entries of the root
-  pub nodes_root_pairs : (h : ℕ) (t : Tree E h) → All (Filled h) t → 2 * nodes h t + length t ≤ length (pairs h t) + 2
+  pub nodes_root_pairs : (h : ℕ) (t : Tree E h) → AllByRecursion (Filled h) t → 2 * nodes h t + length t ≤ length (pairs h t) + 2
   nodes_root_pairs h t w = let s = entries_pairs h (nodes_below_pairs h) t w in omega arith
 
   pub leaf_nodes : (t : Tree E 0) → nodes 0 t ≡ 1
@@ -56,7 +56,7 @@ module _ {E : Type 0} where
 
   -- ---- how deep
 
-  entries_deep : (h : ℕ) → ((p : E × Item E h) → Filled h p → 3 ^ h ≤ length (leaves h p)) → (es : List (E × Item E h)) → All (Filled h) es → length es * 3 ^ h ≤ length (flat_map (leaves h) es)
+  entries_deep : (h : ℕ) → ((p : E × Item E h) → Filled h p → 3 ^ h ≤ length (leaves h p)) → (es : List (E × Item E h)) → AllByRecursion (Filled h) es → length es * 3 ^ h ≤ length (flat_map (leaves h) es)
   entries_deep h each [] w = let z = zero-mul (3 ^ h) in omega arith
   entries_deep h each (p ∷ es) w =
       let ih = entries_deep h each es w.1 in

@@ -2,7 +2,7 @@
 use Rattle.std.proofs.Common.{◌≡◌, ℕ, zero, suc, ◌<◌, Bool, true, false, cond, not, ◌&&◌, eqb, ltb, [], ◌∷◌, ◌++◌, length, get_or, set, Some, None, Option, sym, refl, ap, ◌∙◌, subst, arith}
 use mathlib.Core.List.Permᴰ
 use lib.ListN.{length-map}
-use Rattle.std.specs.List.{prefix_len, AllByRecursion as All}
+use Rattle.std.specs.List.{prefix_len, AllByRecursion}
 use Rattle.std.proofs.ByRecursion.{All-weaker}
 use Rattle.std.proofs.lemmas.Bool.{and_parts, and_from, eqb-true, eq-eqb, ltb-true, ltb-false, not-false, not-true, both_ways, cond_both}
 use Rattle.quadratic.proofs.Perms.{others, perm_at, perm_set, perm_last}
@@ -94,11 +94,11 @@ module _ {E : Type 0} (size : E → ℕ) (join : E → E → E) (covering : E �
   abbrev Other : E × ℕ → Type 0
   Other q = q ≡ (e, c) → ⊥
 
-  leaf_misses : (t : Tree E 0) → cut size join covering e c 0 t ≡ None → All Other t
+  leaf_misses : (t : Tree E 0) → cut size join covering e c 0 t ≡ None → AllByRecursion Other t
   leaf_misses t z =
       let p : E × ℕ → Bool = λ q. not (is_pair covering e c q) in
       let i = prefix_len p t in
-      elim (ltb i (length t)) as (λ b. ltb i (length t) ≡ b → cond {A = Option (Remains E 0)} b (Some (without t i, [])) None ≡ None → All Other t) [
+      elim (ltb i (length t)) as (λ b. ltb i (length t) ≡ b → cond {A = Option (Remains E 0)} b (Some (without t i, [])) None ≡ None → AllByRecursion Other t) [
         | true ↦ λ l z. absurd (let n : ◌≡◌ {A = ℕ} 0 1 = cc in omega arith)
         | false ↦ λ l z.
             All-weaker (λ q. p q ≡ true) Other
@@ -111,16 +111,16 @@ module _ {E : Type 0} (size : E → ℕ) (join : E → E → E) (covering : E �
   inner_none h t (Some s) z = absurd (let n : ◌≡◌ {A = ℕ} 0 1 = cc in omega arith)
 
   -- under an entry whose extent does not cover e the pair does not stand
-  uncovered : (h : ℕ) (p : E × Item E h) → Exact covering h p → covering p.0 e ≡ false → All Other (leaves h p)
+  uncovered : (h : ℕ) (p : E × Item E h) → Exact covering h p → covering p.0 e ≡ false → AllByRecursion Other (leaves h p)
   uncovered h p x f =
       All-weaker (λ q. covering q.0 e ≡ false) Other (λ q k same. both_ways (covering q.0 e) k (subst (λ y. covering y.0 e ≡ true) (sym same) (laws.reflexive e)))
       (leaves h p) (none_under covering (λ a. covering a e) (λ b a k l. laws.transitive b a e k l) h p x f)
 
-  pub cut_misses : (h : ℕ) (t : Tree E h) → Tight covering h t → cut size join covering e c h t ≡ None → All Other (pairs h t)
+  pub cut_misses : (h : ℕ) (t : Tree E h) → Tight covering h t → cut size join covering e c h t ≡ None → AllByRecursion Other (pairs h t)
   cut_misses zero t x z = all_joined Other Other (leaves 0) (λ q k. (k, tt)) t (leaf_misses t z)
   cut_misses (suc h) t x z =
       all_joined Other (λ p. Exact covering (suc h) p × (below h p ≡ None)) (leaves (suc h))
-      (λ p k. elim (covering p.0 e) as (λ b. covering p.0 e ≡ b → cond b (cut size join covering e c h p.1) None ≡ None → All Other (leaves (suc h) p)) [
+      (λ p k. elim (covering p.0 e) as (λ b. covering p.0 e ≡ b → cond b (cut size join covering e c h p.1) None ≡ None → AllByRecursion Other (leaves (suc h) p)) [
         | true ↦ λ l z. cut_misses h p.1 k.0.1 z
         | false ↦ λ l z. uncovered (suc h) p k.0 l
       ] refl k.1)

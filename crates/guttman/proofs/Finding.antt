@@ -1,6 +1,6 @@
 -- A walk that goes below an entry only where its extent passes comes to every pair that passes. Assumes nothing.
 use Rattle.std.proofs.Common.{◌≡◌, ℕ, zero, suc, Bool, true, false, cond, [], sym, refl, ap, ◌∙◌, arith}
-use Rattle.std.specs.List.{flat_map, AllByRecursion as All}
+use Rattle.std.specs.List.{flat_map, AllByRecursion}
 use Rattle.std.proofs.ByRecursion.{All-weaker}
 use Rattle.guttman.specs.Trees.{Item, Tree}
 use Rattle.guttman.specs.Shape.{leaves, pairs, Exact, Tight}
@@ -14,7 +14,7 @@ module _ {E : Type 0} (covering : E → E → Bool) where
     missed c a k f = elim (test a) as (λ b. test a ≡ b → test a ≡ false) [ true ↦ λ e. absurd (let z : true ≡ false = sym (upward c a k e) ∙ f in let n : ◌≡◌ {A = ℕ} 1 0 = ap (λ b. cond {A = ℕ} b 1 0) z in omega arith) | false ↦ λ e. e ] refl
 
     -- under an exact entry that fails no pair passes
-    pub none_under : (h : ℕ) (p : E × Item E h) → Exact covering h p → test p.0 ≡ false → All (λ q. test q.0 ≡ false) (leaves h p)
+    pub none_under : (h : ℕ) (p : E × Item E h) → Exact covering h p → test p.0 ≡ false → AllByRecursion (λ q. test q.0 ≡ false) (leaves h p)
     none_under zero p x f = (f, tt)
     none_under (suc h) p x f =
         all_joined (λ q. test q.0 ≡ false) (λ r. (test r.0 ≡ false) × Exact covering h r) (leaves h) (λ r k. none_under h r k.1 k.0) p.1

@@ -1,6 +1,6 @@
 -- What is cut off lies one above the other: the first is a leaf, and each next one is a node higher. Assumes nothing.
 use Rattle.std.proofs.Common.{◌≡◌, ℕ, zero, suc, ◌+◌, ◌≤◌, Bool, true, false, cond, not, ltb, [], ◌∷◌, ◌++◌, length, get_or, set, Some, None, Option, sym, refl, ap, ◌∙◌, subst, zero-add, arith, length-set}
-use Rattle.std.specs.List.{range_with_len, prefix_len, AllByRecursion as All}
+use Rattle.std.specs.List.{range_with_len, prefix_len, AllByRecursion}
 use Rattle.std.proofs.lemmas.List.{map-id, map_push, length_push}
 use Rattle.std.proofs.ByRecursion.{All-get_or}
 use Rattle.std.proofs.lemmas.List.FromFn.{map-range_with_len_more}
@@ -41,8 +41,8 @@ module _ {E : Type 0} (size : E → ℕ) (join : E → E → E) (covering : E �
       (λ b. let m = length-set t i (x, r.0) in let w = k.within in record { numbered = k.numbered; within = omega arith; lost = λ l. absurd (omega arith) })
 
   inner_climbs : (h : ℕ) (t : Tree E (suc h)) (o : Option (ℕ × Remains E h)) → first_some (λ p. cond (covering p.0 e) (cut size join covering e c h p.1) None) t ≡ o
-      → ((p : Tree E h) (s : Remains E h) → All (Filled h) p → cut size join covering e c h p ≡ Some s → Climbing h p s)
-      → (r : Remains E (suc h)) → All (Filled (suc h)) t → cut_inner size join e h t o ≡ Some r → Climbing (suc h) t r
+      → ((p : Tree E h) (s : Remains E h) → AllByRecursion (Filled h) p → cut size join covering e c h p ≡ Some s → Climbing h p s)
+      → (r : Remains E (suc h)) → AllByRecursion (Filled (suc h)) t → cut_inner size join e h t o ≡ Some r → Climbing (suc h) t r
   inner_climbs h t None is ih r w z = absurd (let n : ◌≡◌ {A = ℕ} 0 1 = cc in omega arith)
   inner_climbs h t (Some s) is ih r w z =
       let q : cut_at size join e h t s.0 s.1 ≡ r = cc in
@@ -52,6 +52,6 @@ module _ {E : Type 0} (size : E → ℕ) (join : E → E → E) (covering : E �
       subst (Climbing (suc h) t) q
       (at_climbs h t s.0 s.1 f.0.0 (ih p.1 s.1 f.1 (some_under (covering p.0 e) (cut size join covering e c h p.1) s.1 (at_i.1 (e, [])))))
 
-  pub cut_climbs : (h : ℕ) (t : Tree E h) (r : Remains E h) → All (Filled h) t → cut size join covering e c h t ≡ Some r → Climbing h t r
+  pub cut_climbs : (h : ℕ) (t : Tree E h) (r : Remains E h) → AllByRecursion (Filled h) t → cut size join covering e c h t ≡ Some r → Climbing h t r
   cut_climbs zero t r w z = leaf_climbs t (prefix_len (λ p. not (is_pair covering e c p)) t) r z
   cut_climbs (suc h) t r w z = inner_climbs h t (first_some (λ p. cond (covering p.0 e) (cut size join covering e c h p.1) None) t) refl (cut_climbs h) r w z

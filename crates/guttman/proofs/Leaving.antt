@@ -3,7 +3,7 @@ use Rattle.std.proofs.Common.{◌≡◌, ℕ, zero, suc, ◌+◌, ◌-◌, ◌<�
 use mathlib.Core.List.{Permᴰ}
 use lib.ListN.{length-map}
 use lib.Seq.{split_at, take-set-le, take-set-lt}
-use Rattle.std.specs.List.{prefix_len, AllByRecursion as All}
+use Rattle.std.specs.List.{prefix_len, AllByRecursion}
 use Rattle.std.proofs.lemmas.List.{drop_all, get_or_default, get_or-map, map-set, take-map}
 use Rattle.std.proofs.lemmas.Bool.{cases_lt}
 use Rattle.quadratic.proofs.Perms.{perm_same, perm_last, perm_at, perm_set}
@@ -74,10 +74,10 @@ module _ {X : Type 0} (p : X → Bool) where
         | false ↦ λ e m. e
       ] refl l
 
-  pub leading_whole : (xs : List X) → length xs ≤ prefix_len p xs → All (λ x. p x ≡ true) xs
+  pub leading_whole : (xs : List X) → length xs ≤ prefix_len p xs → AllByRecursion (λ x. p x ≡ true) xs
   leading_whole [] l = tt
   leading_whole (x ∷ xs) l =
-      elim (p x) as (λ b. p x ≡ b → suc (length xs) ≤ cond b (1 + prefix_len p xs) 0 → (p x ≡ true) × All (λ x. p x ≡ true) xs) [
+      elim (p x) as (λ b. p x ≡ b → suc (length xs) ≤ cond b (1 + prefix_len p xs) 0 → (p x ≡ true) × AllByRecursion (λ x. p x ≡ true) xs) [
         | true ↦ λ e m. (e, leading_whole xs (omega arith))
         | false ↦ λ e m. absurd (omega arith)
       ] refl l
@@ -120,11 +120,11 @@ module _ {X Y : Type 0} (f : X → Option Y) where
           let a = k.0 in
           subst (λ r. (r.0 < length (x ∷ xs)) × ((d : X) → f (get_or (x ∷ xs) r.0 d) ≡ Some r.1)) q (omega arith, k.1)
 
-  pub first_some_none : (xs : List X) → first_some f xs ≡ None → All (λ x. f x ≡ None) xs
+  pub first_some_none : (xs : List X) → first_some f xs ≡ None → AllByRecursion (λ x. f x ≡ None) xs
   first_some_none [] z = tt
   first_some_none (x ∷ xs) z = by (f x) refl (first_some f xs) (first_some_none xs) z
     where
-      by : (o : Option Y) → f x ≡ o → (l : Option (ℕ × Y)) → (l ≡ None → All (λ x. f x ≡ None) xs) → or_later o l ≡ None → (f x ≡ None) × All (λ x. f x ≡ None) xs
+      by : (o : Option Y) → f x ≡ o → (l : Option (ℕ × Y)) → (l ≡ None → AllByRecursion (λ x. f x ≡ None) xs) → or_later o l ≡ None → (f x ≡ None) × AllByRecursion (λ x. f x ≡ None) xs
       by (Some y) e l ih z = absurd (let n : ◌≡◌ {A = ℕ} 0 1 = cc in omega arith)
       by None e None ih z = (e, ih refl)
       by None e (Some s) ih z = absurd (let n : ◌≡◌ {A = ℕ} 0 1 = cc in omega arith)
@@ -137,6 +137,6 @@ module _ {X Y : Type 0} (f : X → Option Y) where
       ap (λ o. or_later o (first_some f xs)) (before 0 (omega arith))
       ∙ ap (or_later None) (first_some_found xs i d y (omega arith) (λ k m. before (suc k) (omega arith)) here)
 
-  pub first_some_missed : (xs : List X) → All (λ x. f x ≡ None) xs → first_some f xs ≡ None
+  pub first_some_missed : (xs : List X) → AllByRecursion (λ x. f x ≡ None) xs → first_some f xs ≡ None
   first_some_missed [] h = refl
   first_some_missed (x ∷ xs) h = ap (λ o. or_later o (first_some f xs)) h.0 ∙ ap (or_later None) (first_some_missed xs h.1)

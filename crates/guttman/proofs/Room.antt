@@ -2,7 +2,7 @@
 -- Assumes nothing.
 use Rattle.std.proofs.Common.{◌≡◌, ℕ, zero, suc, ◌+◌, ◌-◌, ◌*◌, ◌^◌, ◌<◌, ◌≤◌, List, [], ◌∷◌, length, sum_by, ap, ◌∙◌, inl, inr, mul-le-mul_right, suc-mul, mul-zero, zero-mul, mul-add, arith}
 use native.Mathlib.Nat.{pow-succ', pow-le-pow_right}
-use Rattle.std.specs.List.{AllByRecursion as All}
+use Rattle.std.specs.List.{AllByRecursion}
 use Rattle.std.proofs.ByRecursion.{All-weaker}
 use Rattle.std.proofs.lemmas.List.Sums.{sum_by-cons}
 use Rattle.std.proofs.lemmas.Bool.{cases_lt}
@@ -12,7 +12,7 @@ use Rattle.guttman.specs.Deletion.{Loose, loose_nodes}
 use Rattle.guttman.proofs.Counting.{nodes_root_pairs, nodes_slack_pairs, leaf_nodes, five_deep, six_deep}
 
 -- a bound for each of a list is a bound for the sum
-sum_above : {X : Type 0} (f : X → ℕ) (k m : ℕ) (xs : List X) → All (λ x. m ≤ k * f x) xs → length xs * m ≤ k * sum_by f xs
+sum_above : {X : Type 0} (f : X → ℕ) (k m : ℕ) (xs : List X) → AllByRecursion (λ x. m ≤ k * f x) xs → length xs * m ≤ k * sum_by f xs
 sum_above f k m [] w = let z = zero-mul m in omega arith
 sum_above f k m (x ∷ xs) w =
     let ih = sum_above f k m xs w.1 in
@@ -21,7 +21,7 @@ sum_above f k m (x ∷ xs) w =
     let s : k * sum_by f (x ∷ xs) ≡ k * f x + k * sum_by f xs = ap (λ n. k * n) (sum_by-cons f x xs) ∙ mul-add k (f x) (sum_by f xs) in
     omega arith
 
-sum_below : {X : Type 0} (f : X → ℕ) (k m : ℕ) (xs : List X) → All (λ x. k * f x ≤ m) xs → k * sum_by f xs ≤ length xs * m
+sum_below : {X : Type 0} (f : X → ℕ) (k m : ℕ) (xs : List X) → AllByRecursion (λ x. k * f x ≤ m) xs → k * sum_by f xs ≤ length xs * m
 sum_below f k m [] w = let z = mul-zero k in omega arith
 sum_below f k m (x ∷ xs) w =
     let ih = sum_below f k m xs w.1 in
@@ -64,7 +64,7 @@ module _ {E : Type 0} where
       omega arith
 
   -- and above at most two at most 73
-  pub seventy_three_nodes : (h : ℕ) (t : Tree E h) → h ≤ 2 → length t ≤ 8 → All (Filled h) t → nodes h t ≤ 73
+  pub seventy_three_nodes : (h : ℕ) (t : Tree E h) → h ≤ 2 → length t ≤ 8 → AllByRecursion (Filled h) t → nodes h t ≤ 73
   seventy_three_nodes h t low few w =
       let e : 8 ^ h ≤ 8 ^ 2 = pow-le-pow_right (omega arith) low in
       let s = sum_below (nodes_of h) 1 9 t (All-weaker (Filled h) (λ q. 1 * nodes_of h q ≤ 9) (λ q f. let n = nodes_most h q f in omega arith) t w) in

@@ -3,7 +3,7 @@
 -- Assumes nothing.
 use Rattle.std.specs.Prelude.{◌≡◌, ℕ, zero, suc, ◌<◌, ◌≤◌, Bool, List, [], ◌∷◌, length, fold, sum_by}
 use mathlib.Core.List.{Permᴰ}
-use Rattle.std.specs.List.{flat_map, AllByRecursion as All}
+use Rattle.std.specs.List.{flat_map, AllByRecursion}
 use Rattle.guttman.specs.Trees.{Tree, extents, inserted}
 use Rattle.guttman.specs.Shape.{pairs, nodes, Filled, IsJoin}
 
@@ -19,7 +19,7 @@ loose_nodes os = sum_by (λ o. nodes o.0 o.1) os
 
 -- it has two entries, of the three at least that it had, and the nodes under it have as many as they may
 abbrev pub Short : {E : Type 0} → Loose E → Type 0
-Short o = (length o.1 ≡ 2) × All (Filled o.0) o.1
+Short o = (length o.1 ≡ 2) × AllByRecursion (Filled o.0) o.1
 
 module _ {E : Type 0} (covering : E → E → Bool) where
   -- an inner node t becomes s: one of its entries has `node` left of its node, from under which `below` was cut off. With three entries or

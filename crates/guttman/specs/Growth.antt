@@ -1,6 +1,6 @@
 -- A node that something was added to, as one node or as the two that it was split into. Assumes nothing.
 use Rattle.std.specs.Prelude.{ℕ, ◌+◌, Bool, List, ◌++◌, map}
-use Rattle.std.specs.List.{AllByRecursion as All}
+use Rattle.std.specs.List.{AllByRecursion}
 use Rattle.guttman.specs.Trees.{Tree, Grown, One, Two}
 use Rattle.guttman.specs.Shape.{Sized, nodes, Filled, Exact}
 
@@ -16,8 +16,8 @@ module _ {Z : Type 0} where
   SizedGrown low (Two s t) = Sized 3 s × Sized 3 t
 
   abbrev pub AllGrown : (Z → Type 0) → Grown (List Z) → Type 0
-  AllGrown P (One t) = All P t
-  AllGrown P (Two s t) = All P s × All P t
+  AllGrown P (One t) = AllByRecursion P t
+  AllGrown P (Two s t) = AllByRecursion P s × AllByRecursion P t
 
 -- its entries read another way
 abbrev pub mapped : {Z W : Type 0} → (Z → W) → Grown (List Z) → Grown (List W)

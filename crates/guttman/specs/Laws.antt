@@ -2,7 +2,7 @@
 -- nodes and of the depth. Assumes nothing.
 use Rattle.std.specs.Prelude.{◌≡◌, ℕ, ◌+◌, ◌*◌, ◌<◌, ◌≤◌, Bool, true, false, List, ◌∷◌, ◌++◌, length, Some, None, slice_index_or}
 use mathlib.Core.List.{Permᴰ}
-use Rattle.std.specs.List.{ContainsAt as Has, AllByRecursion as All}
+use Rattle.std.specs.List.{ContainsAt as Has, AllByRecursion}
 use Rattle.guttman.specs.Trees.{Tree, sooner, choose, inserted}
 use Rattle.guttman.specs.Shape.{least_root, slack_root, pairs, nodes, Shaped, Tight, WellFormed}
 use Rattle.guttman.specs.Finding.{reached, passing, Upward}
@@ -69,7 +69,7 @@ pub record Halfway {E : Type 0} (covering : E → E → Bool) (e : E) (c h : ℕ
   pub as_many : nodes h s + loose_nodes loose ≡ nodes h t
   pub shape : Shaped (slack_root h) h s
   pub tight : Tight covering h s
-  pub short : All Short loose
+  pub short : AllByRecursion Short loose
 
 abbrev pub CutHalfway : {E : Type 0} → (E → E → Bool) → Type 0
 CutHalfway {E} covering =

@@ -1,6 +1,6 @@
 -- What a tree stores, and what it is for it to be well formed. Assumes nothing.
 use Rattle.std.specs.Prelude.{◌≡◌, ℕ, zero, suc, ◌+◌, ◌≤◌, Bool, true, List, [], ◌∷◌, length, sum_by}
-use Rattle.std.specs.List.{flat_map, AllByRecursion as All}
+use Rattle.std.specs.List.{flat_map, AllByRecursion}
 use Rattle.guttman.specs.Trees.{Item, Tree, extents}
 
 -- from low to eight entries
@@ -38,24 +38,24 @@ module _ {E : Type 0} where
   -- each node under an entry has three to eight entries
   abbrev pub Filled : (h : ℕ) → E × Item E h → Type 0
   Filled zero p = Unit {0}
-  Filled (suc h) p = Sized 3 p.1 × All (Filled h) p.1
+  Filled (suc h) p = Sized 3 p.1 × AllByRecursion (Filled h) p.1
 
   -- so has each node of a tree but the root, which has from low to eight
   abbrev pub Shaped : ℕ → (h : ℕ) → Tree E h → Type 0
-  Shaped low h t = Sized low t × All (Filled h) t
+  Shaped low h t = Sized low t × AllByRecursion (Filled h) t
 
   -- e is the join of the extents xs: it covers them all, and is covered by all that covers them all
   pub record IsJoin (covering : E → E → Bool) (e : E) (xs : List E) : Type 0 where
-    pub above : All (λ x. covering e x ≡ true) xs
-    pub least : (u : E) → All (λ x. covering u x ≡ true) xs → covering u e ≡ true
+    pub above : AllByRecursion (λ x. covering e x ≡ true) xs
+    pub least : (u : E) → AllByRecursion (λ x. covering u x ≡ true) xs → covering u e ≡ true
 
   -- the extent of an inner entry, and of each one under it, is the join of its node's extents
   abbrev pub Exact : (E → E → Bool) → (h : ℕ) → E × Item E h → Type 0
   Exact covering zero p = Unit {0}
-  Exact covering (suc h) p = IsJoin covering p.0 (extents p.1) × All (Exact covering h) p.1
+  Exact covering (suc h) p = IsJoin covering p.0 (extents p.1) × AllByRecursion (Exact covering h) p.1
 
   abbrev pub Tight : (E → E → Bool) → (h : ℕ) → Tree E h → Type 0
-  Tight covering h t = All (Exact covering h) t
+  Tight covering h t = AllByRecursion (Exact covering h) t
 
   -- a tree is well formed: its leaves are equally deep, as they are in every tree here; its nodes have as many entries as they may; and
   -- its inner extents are exact

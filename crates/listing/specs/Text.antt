@@ -1,6 +1,6 @@
 -- The text of a line: a word, and figures with a space before each. Assumes nothing.
 use Rattle.std.specs.Prelude.{◌≡◌, ℕ, ◌≤◌, List, [], ◌∷◌, ◌++◌, Some, None, codes, decimal, Option, ◌≢◌}
-use Rattle.std.specs.List.{AllByRecursion as All}
+use Rattle.std.specs.List.{AllByRecursion}
 use Rattle.raster.specs.declared.shape.Shape.TheVariants as shape
 use Rattle.listing.specs.declared.line.Line.{Line}
 use Rattle.listing.specs.declared.line.Line.TheVariants as line
@@ -34,7 +34,7 @@ text l = word l ++ spaced (figures l)
 
 -- a figure is at most 65,535
 abbrev pub Small : List ℕ → Type 0
-Small ns = All (λ n. n ≤ 65535) ns
+Small ns = AllByRecursion (λ n. n ≤ 65535) ns
 
 -- bytes are read as the line of which they are the text, and refused if there is none
 abbrev pub Parsed : List ℕ → Option Line → Type 0

@@ -3,7 +3,7 @@ use Rattle.std.proofs.Common.{◌≡◌, ℕ, suc, ◌+◌, ◌*◌, ◌<◌, Li
 use mathlib.Core.List.Permᴰ
 use mathlib.Core.List.{Permᴰ}
 use lib.Seq.{split_at}
-use Rattle.std.specs.List.{flat_map, AllByRecursion as All}
+use Rattle.std.specs.List.{flat_map, AllByRecursion}
 use Rattle.extent.specs.declared.entry.Entry.{Entry}
 use Rattle.quadratic.proofs.Perms.{perm_same}
 use Rattle.node_rows.specs.Rows.{row, under, used}
@@ -42,15 +42,15 @@ module _ {E : Type 0} {places : List (Entry E)} {counts : List ℕ} {h k at i : 
   pub child_apart : Distinct (used f (suc k) at)
   child_apart = subst (λ n. Distinct (used f n at)) child.inner child.placed.apart
 
-  pub child_live : All (Live f) (under f (suc k) (f at))
-  child_live = subst (λ n. All (Live f) (under f n (f at))) child.inner child.placed.live
+  pub child_live : AllByRecursion (Live f) (under f (suc k) (f at))
+  child_live = subst (λ n. AllByRecursion (Live f) (under f n (f at))) child.inner child.placed.live
 
   -- what holds of each row below the node holds of each that the child takes
-  pub child_own : (P : ℕ → Type 0) → All P (under f (suc k) (f at)) → All P (used f k d.code)
+  pub child_own : (P : ℕ → Type 0) → AllByRecursion P (under f (suc k) (f at)) → AllByRecursion P (used f k d.code)
   child_own P a =
       let g : Entry E → List ℕ = λ x. used f k x.code in
-      (all_unappend (λ x. All P (g x)) (take i (f at)) (d ∷ drop (suc i) (f at))
-      (all_unjoined P g (take i (f at) ++ (d ∷ drop (suc i) (f at))) (subst (λ xs. All P (flat_map g xs)) child_split a))).1.0
+      (all_unappend (λ x. AllByRecursion P (g x)) (take i (f at)) (d ∷ drop (suc i) (f at))
+      (all_unjoined P g (take i (f at) ++ (d ∷ drop (suc i) (f at))) (subst (λ xs. AllByRecursion P (flat_map g xs)) child_split a))).1.0
 
   pub child_placed : Placed f k d.code
   child_placed =
@@ -66,7 +66,7 @@ module _ {E : Type 0} {places : List (Entry E)} {counts : List ℕ} {h k at i : 
 pub live_count : {E : Type 0} {places : List (Entry E)} {counts : List ℕ} (q : ℕ) → Ready places counts → Live (row places counts) q → 0 < get_or counts q 0
 live_count {E} {places} {counts} q ready live = let c = count_row places counts ready q live.0 in let l = live.1 in omega arith
 
-pub live_both : {E : Type 0} (f : ℕ → List (Entry E)) (k r s : ℕ) → All (Live f) (flat_map (used f k) (r ∷ s ∷ [])) → Live f r × Live f s
+pub live_both : {E : Type 0} (f : ℕ → List (Entry E)) (k r s : ℕ) → AllByRecursion (Live f) (flat_map (used f k) (r ∷ s ∷ [])) → Live f r × Live f s
 live_both f k r s h = let a = all_unjoined (Live f) (used f k) (r ∷ s ∷ []) h in (a.0.0, a.1.0.0)
 
 -- an inner node has an entry, and so a child
@@ -74,6 +74,6 @@ pub inner_count : {E : Type 0} {places : List (Entry E)} {counts : List ℕ} {h 
 inner_count {E} {places} {counts} {h} {at} ready placed some = let c = count_row places counts ready at placed.there in let l = placed.full some in omega arith
 
 -- the row of a node that may have been split is in use
-pub live_own : {E : Type 0} (f : ℕ → List (Entry E)) (k r : ℕ) (o : Option ℕ) → All (Live f) (flat_map (used f k) (halves r o)) → Live f r
+pub live_own : {E : Type 0} (f : ℕ → List (Entry E)) (k r : ℕ) (o : Option ℕ) → AllByRecursion (Live f) (flat_map (used f k) (halves r o)) → Live f r
 live_own f k r None h = h.0
 live_own f k r (Some s) h = h.0

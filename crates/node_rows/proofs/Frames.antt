@@ -2,7 +2,7 @@
 use Rattle.std.proofs.Common.{◌≡◌, ℕ, zero, suc, ◌+◌, List, [], ◌∷◌, ◌++◌, map, length, sum_by, sym, refl, ap, ◌∙◌, arith, length-append}
 use mathlib.Core.List.Permᴰ
 use mathlib.Core.List.{Permᴰ}
-use Rattle.std.specs.List.{flat_map, AllByRecursion as All}
+use Rattle.std.specs.List.{flat_map, AllByRecursion}
 use Rattle.std.proofs.ByRecursion.{All-weaker}
 use Rattle.std.proofs.lemmas.List.Sums.{sum_by-cons}
 use Rattle.extent.specs.declared.entry.Entry.{Entry}
@@ -15,12 +15,12 @@ use Rattle.node_rows.specs.Nodes.{seen}
 use Rattle.node_rows.proofs.Separate.{map_same, all_unjoined}
 
 module _ {E : Type 0} (f f' : ℕ → List (Entry E)) where
-  pub same_seen : (h : ℕ) (es : List (Entry E)) → All (λ q. f' q ≡ f q) (under f h es) → (map (seen f' h) es ≡ map (seen f h) es) × (under f' h es ≡ under f h es)
+  pub same_seen : (h : ℕ) (es : List (Entry E)) → AllByRecursion (λ q. f' q ≡ f q) (under f h es) → (map (seen f' h) es ≡ map (seen f h) es) × (under f' h es ≡ under f h es)
   same_seen zero es s = (refl, refl)
   same_seen (suc h) es s =
       let S : Entry E → Type 0 = λ x. (seen f' (suc h) x ≡ seen f (suc h) x) × (used f' h x.code ≡ used f h x.code) in
-      let each : All S es =
-      All-weaker (λ x. All (λ q. f' q ≡ f q) (used f h x.code)) S
+      let each : AllByRecursion S es =
+      All-weaker (λ x. AllByRecursion (λ q. f' q ≡ f q) (used f h x.code)) S
       (λ x a. let ih = same_seen h (f x.code) a.1 in
       (ap (λ (z : Item E (suc h)). (x.extent, z)) (ap (map (seen f' h)) a.0 ∙ ih.0), ap (λ z. x.code ∷ z) (ap (under f' h) a.0 ∙ ih.1)))
       es (all_unjoined (λ q. f' q ≡ f q) (λ x. used f h x.code) es s) in (

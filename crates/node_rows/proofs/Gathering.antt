@@ -1,7 +1,7 @@
 -- Pairs are taken down from a tree, and its rows are given up. Assumes nothing.
 use Rattle.std.proofs.Common.{◌≡◌, ℕ, suc, ◌+◌, ◌*◌, ◌<◌, ◌≤◌, ◌⊎◌, List, [], ◌∷◌, ◌++◌, map, length, get_or, take, drop, set, sym, refl, ap, ◌∙◌, subst, inl, inr, append_assoc, arith, length-append, take_all, get_or-set_other, get_or-set_same}
 use lib.Seq.{split_at}
-use Rattle.std.specs.List.{flat_map, AllByRecursion as All}
+use Rattle.std.specs.List.{flat_map, AllByRecursion}
 use Rattle.std.proofs.lemmas.List.{append-nil, map-append, map_push, take_more, take_more_set}
 use Rattle.std.proofs.ByRecursion.{All-append, All-weaker}
 use Rattle.std.proofs.lemmas.Bool.{cases_eq}
@@ -153,7 +153,7 @@ module _ {E : Type 0} {places : List (Entry E)} {counts : List ℕ} {h k at i : 
   g₁ = row places counts₁
 
   -- the rows of the child are as they were
-  child_same : All (λ q. g₁ q ≡ g q) (used g k d.code)
+  child_same : AllByRecursion (λ q. g₁ q ≡ g q) (used g k d.code)
   child_same =
       let before = under g (suc k) (take i (g at)) in
       let behind = under g (suc k) (drop (suc i) (g at)) in
@@ -176,7 +176,7 @@ module _ {E : Type 0} {places : List (Entry E)} {counts : List ℕ} {h k at i : 
       record {
         there = p.there;
         full = λ z. subst (λ es. 0 < length es) (sym child_same.0) (p.full z);
-        live = subst (All (Live g₁)) (sym (ap (under g₁ k) child_same.0 ∙ (same_seen g g₁ k (g d.code) child_same.1).1)) (still_live g g₁ (under g k (g d.code)) child_same.1 p.live);
+        live = subst (AllByRecursion (Live g₁)) (sym (ap (under g₁ k) child_same.0 ∙ (same_seen g g₁ k (g d.code) child_same.1).1)) (still_live g g₁ (under g k (g d.code)) child_same.1 p.live);
         apart = subst Distinct (sym walked_used) p.apart;
       }
 

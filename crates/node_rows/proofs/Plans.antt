@@ -2,7 +2,7 @@
 use Rattle.std.proofs.Common.{◌≡◌, ℕ, suc, ◌<◌, List, ◌∷◌, ◌++◌, map, length, sym, refl, ap, ◌∙◌, subst}
 use mathlib.Core.List.Permᴰ
 use mathlib.Core.List.{Permᴰ}
-use Rattle.std.specs.List.{flat_map, AllByRecursion as All}
+use Rattle.std.specs.List.{flat_map, AllByRecursion}
 use Rattle.std.proofs.ByRecursion.{All-append, All-weaker}
 use Rattle.extent.specs.declared.entry.Entry.{Entry}
 use Rattle.quadratic.proofs.Perms.{perm_same, perm_all}
@@ -17,12 +17,12 @@ pub record Planned {E : Type 0} (f f₁ : ℕ → List (Entry E)) (h r : ℕ) (L
   pub frame : (q : ℕ) → Off q (used f h r) → 0 < length (f q) → f₁ q ≡ f q
   pub off : (q : ℕ) → Off q (used f h r) → 0 < length (f q) → Off q (under f₁ h L)
   pub apart : Distinct (r ∷ under f₁ h L)
-  pub live : All (Live f₁) (under f₁ h L)
+  pub live : AllByRecursion (Live f₁) (under f₁ h L)
   pub more : (q : ℕ) → Off q (r ∷ under f₁ h L) → Off q (used f h r)
   pub rest : (q : ℕ) → Off q (r ∷ under f₁ h L) → f₁ q ≡ f q
 
 -- rows that are as they were are in use still
-pub still_live : {E : Type 0} (f f' : ℕ → List (Entry E)) (rs : List ℕ) → All (λ q. f' q ≡ f q) rs → All (Live f) rs → All (Live f') rs
+pub still_live : {E : Type 0} (f f' : ℕ → List (Entry E)) (rs : List ℕ) → AllByRecursion (λ q. f' q ≡ f q) rs → AllByRecursion (Live f) rs → AllByRecursion (Live f') rs
 still_live f f' rs same live =
     All-weaker (λ q. (f' q ≡ f q) × Live f q) (Live f') (λ q a. (a.1.0, subst (λ z. 0 < length z) (sym a.0) a.1.1)) rs
     (all_both (λ q. f' q ≡ f q) (Live f) rs same live)
@@ -31,7 +31,7 @@ still_live f f' rs same live =
 
 module _ {E : Type 0} (f f₁ f₃ f₂ : ℕ → List (Entry E)) (h r : ℕ) (new : List ℕ) (L : List (Entry E)) (plan : Planned f f₁ h r L)
     (other : (q : ℕ) → (q ≡ r → ⊥) → f₃ q ≡ f₁ q) (perm : Permᴰ L (flat_map f₂ (r ∷ new))) (others : (q : ℕ) → Off q (r ∷ new) → f₂ q ≡ f₃ q)
-    (clear : (q : ℕ) → 0 < length (f₃ q) → (q ≡ r → ⊥) → Off q (r ∷ new)) (distinct : Distinct (r ∷ new)) (live : All (Live f₂) (r ∷ new)) where
+    (clear : (q : ℕ) → 0 < length (f₃ q) → (q ≡ r → ⊥) → Off q (r ∷ new)) (distinct : Distinct (r ∷ new)) (live : AllByRecursion (Live f₂) (r ∷ new)) where
   clear_before : (q : ℕ) → 0 < length (f₁ q) → (q ≡ r → ⊥) → Off q (r ∷ new)
   clear_before q n ne = clear q (subst (λ z. 0 < length z) (sym (other q ne)) n) ne
 
@@ -43,7 +43,7 @@ module _ {E : Type 0} (f f₁ f₃ f₂ : ℕ → List (Entry E)) (h r : ℕ) (n
       apart_flip (under f₁ h L) (r ∷ new) (All-weaker (λ q. Live f₁ q × (r ≡ q → ⊥)) (λ q. Off q (r ∷ new)) (λ q a. clear_before q a.0.1 (λ z. a.1 (sym z))) (under f₁ h L)
       (all_both (Live f₁) (λ q. r ≡ q → ⊥) (under f₁ h L) plan.live plan.apart.0))
 
-  pub planned_same : All (λ q. f₂ q ≡ f₁ q) (under f₁ h L)
+  pub planned_same : AllByRecursion (λ q. f₂ q ≡ f₁ q) (under f₁ h L)
   planned_same =
       All-weaker (λ q. Off q (r ∷ new)) (λ q. f₂ q ≡ f₁ q) (λ q o. others q o ∙ other q o.0) (under f₁ h L) (apart_flip (r ∷ new) (under f₁ h L) fresh)
 
@@ -72,24 +72,24 @@ planned_leaf f r L = record { frame = λ q o n. refl; off = λ q o n. tt; apart 
 -- ---- an inner node keeps its entries C; its child d has grown into the rows rs, for which it has the entries D
 
 module _ {E : Type 0} (f f₁ : ℕ → List (Entry E)) (k r : ℕ) (C : List (Entry E)) (d : Entry E) (rs : List ℕ) (D L : List (Entry E))
-    (was : Permᴰ (f r) (d ∷ C)) (apart : Distinct (used f (suc k) r)) (full : 0 < length (f r)) (live : All (Live f) (under f (suc k) (f r)))
+    (was : Permᴰ (f r) (d ∷ C)) (apart : Distinct (used f (suc k) r)) (full : 0 < length (f r)) (live : AllByRecursion (Live f) (under f (suc k) (f r)))
     (grew : Kept f f₁ k d.code rs) (code : map (λ x. x.code) D ≡ rs) (laid : Permᴰ L (D ++ C)) where
   rows_were : Permᴰ (under f (suc k) (f r)) (used f k d.code ++ under f (suc k) C)
   rows_were = perm_under f (suc k) was
 
-  parts : (P : ℕ → Type 0) → All P (under f (suc k) (f r)) → All P (used f k d.code) × All P (under f (suc k) C)
+  parts : (P : ℕ → Type 0) → AllByRecursion P (under f (suc k) (f r)) → AllByRecursion P (used f k d.code) × AllByRecursion P (under f (suc k) C)
   parts P h = all_unappend P (used f k d.code) (under f (suc k) C) (perm_all P rows_were h)
 
   split : Distinct (used f k d.code) × Distinct (under f (suc k) C) × Apart (used f k d.code) (under f (suc k) C)
   split = distinct_parts (used f k d.code) (under f (suc k) C) (perm_distinct rows_were apart.1)
 
   -- the others' rows are apart from those of d, and in use
-  away : All (λ q. Off q (used f k d.code) × Live f q) (under f (suc k) C)
+  away : AllByRecursion (λ q. Off q (used f k d.code) × Live f q) (under f (suc k) C)
   away =
       all_both (λ q. Off q (used f k d.code)) (Live f) (under f (suc k) C) (apart_flip (used f k d.code) (under f (suc k) C) split.2)
       (parts (Live f) live).1
 
-  pub still : All (λ q. f₁ q ≡ f q) (under f (suc k) C)
+  pub still : AllByRecursion (λ q. f₁ q ≡ f q) (under f (suc k) C)
   still = All-weaker (λ q. Off q (used f k d.code) × Live f q) (λ q. f₁ q ≡ f q) (λ q a. grew.frame q a.0 a.1.1) (under f (suc k) C) away
 
   under_d : under f₁ (suc k) D ≡ flat_map (used f₁ k) rs

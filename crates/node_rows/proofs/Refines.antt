@@ -3,7 +3,7 @@ use Rattle.std.proofs.Common.{◌≡◌, ℕ, suc, ◌+◌, ◌*◌, ◌/◌, �
 use mathlib.Core.List.{Permᴰ}
 use lib.ListN.{length-map}
 use lib.Seq.{set_split}
-use Rattle.std.specs.List.{flat_map, AllByRecursion as All}
+use Rattle.std.specs.List.{flat_map, AllByRecursion}
 use Rattle.std.proofs.lemmas.List.{append-nil, map-append, get_or-map, take-map, drop-map}
 use Rattle.extent.specs.declared.entry.Entry.{Entry}
 use Rattle.quadratic.proofs.Perms.{perm_same, map_map}
@@ -45,7 +45,7 @@ module _ {E : Type 0} (size : E → ℕ) (join : E → E → E) (g : ℕ → Lis
 -- after an entry was dealt out: the rows are kept, what is below the planned entries is as planned, and a row outside the tree is none of those dealt to, and none below
 record Done {E : Type 0} (f f₁ f₂ : ℕ → List (Entry E)) (h r : ℕ) (o : Option ℕ) (L : List (Entry E)) : Type 0 where
   kept : Kept f f₂ h r (halves r o)
-  same : All (λ q. f₂ q ≡ f₁ q) (under f₁ h L)
+  same : AllByRecursion (λ q. f₂ q ≡ f₁ q) (under f₁ h L)
   off : (q : ℕ) → Off q (flat_map (used f₂ h) (halves r o)) → Off q (halves r o) × Off q (under f₁ h L)
 
 done : {E : Type 0} {size : E → ℕ} {join : E → E → E} {places₃ : List (Entry E)} {counts₃ : List ℕ} {places₂ : List (Entry E)} {counts₂ : List ℕ} (f f₁ : ℕ → List (Entry E)) (h r : ℕ) (o : Option ℕ) (y : Entry E)
@@ -142,11 +142,11 @@ module _ {E : Type 0} (size : E → ℕ) (join : E → E → E) {places : List (
   abbrev t' : Tree E (suc k)
   t' = set t i (bound size join y.extent (extents (below f₁ k d.code)), below f₁ k d.code)
 
-  seen_row : (g : ℕ → List (Entry E)) → All (λ q. g q ≡ f₁ q) (under f₁ (suc k) (f₃ at)) → All (λ q. f₁ q ≡ f q) (under f (suc k) (A ++ B)) → map (seen g (suc k)) (f₃ at) ≡ t'
+  seen_row : (g : ℕ → List (Entry E)) → AllByRecursion (λ q. g q ≡ f₁ q) (under f₁ (suc k) (f₃ at)) → AllByRecursion (λ q. f₁ q ≡ f q) (under f (suc k) (A ++ B)) → map (seen g (suc k)) (f₃ at) ≡ t'
   seen_row g same st =
       let φ = seen f (suc k) in
       let ψ = seen f₁ (suc k) in
-      let ab = all_unappend (λ q. f₁ q ≡ f q) (under f (suc k) A) (under f (suc k) B) (subst (All (λ q. f₁ q ≡ f q)) (under_append f (suc k) A B) st) in
+      let ab = all_unappend (λ q. f₁ q ≡ f q) (under f (suc k) A) (under f (suc k) B) (subst (AllByRecursion (λ q. f₁ q ≡ f q)) (under_append f (suc k) A B) st) in
       let z : E × Tree E k = (bound size join y.extent (extents (below f₁ k d.code)), below f₁ k d.code) in
       let l : i < length t = let n = length-map (f at) φ in let m = child_in child in omega arith in
       (same_seen f₁ g (suc k) (f₃ at) same).0 ∙ ap (map ψ) row_is ∙ map-append ψ A (d' ∷ B)
@@ -206,7 +206,7 @@ module _ {E : Type 0} (size : E → ℕ) (join : E → E → E) {places : List (
       let st = still f f₁ k at (A ++ B) d rs (d' ∷ v ∷ []) L (child_perm child) (child_apart child) (child_full child) (child_live child) grew codes laid in
       let short : length (f₃ at) ≤ 8 = let w = ready₁.within at in let c = count_short places₃ counts₁ at in omega arith in
       let D = done f f₁ (suc k) at o v short plan rows_are dealt in
-      let ab = all_unappend (λ q. f₂ q ≡ f₁ q) (under f₁ (suc k) (f₃ at)) (under f₁ (suc k) (v ∷ [])) (subst (All (λ q. f₂ q ≡ f₁ q)) (under_append f₁ (suc k) (f₃ at) (v ∷ [])) D.same) in
+      let ab = all_unappend (λ q. f₂ q ≡ f₁ q) (under f₁ (suc k) (f₃ at)) (under f₁ (suc k) (v ∷ [])) (subst (AllByRecursion (λ q. f₂ q ≡ f₁ q)) (under_append f₁ (suc k) (f₃ at) (v ∷ [])) D.same) in
       let item-is : seen f₂ (suc k) v ≡ (bound size join y.extent (extents (below f₁ k new)), below f₁ k new) =
       ap (λ w. get_or w 0 (seen f₂ (suc k) v)) (same_seen f₁ f₂ (suc k) (v ∷ []) ab.1).0 ∙ ap (λ (w : E). (w, below f₁ k new)) (u-is ∙ bound_seen size join f₁ k new y.extent) in
       subst (λ n. Inserted places counts places₂ counts₂ size join n at o y) (sym child.inner) (record {

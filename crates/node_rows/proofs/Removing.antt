@@ -3,7 +3,7 @@ use Rattle.std.proofs.Common.{◌≡◌, ℕ, suc, ◌+◌, ◌-◌, ◌*◌, �
 use mathlib.Core.List.{Permᴰ}
 use lib.ListN.{length-map}
 use lib.Seq.{drop-set-add, take-set-lt, set_split}
-use Rattle.std.specs.List.{flat_map, prefix_len, AllByRecursion as All}
+use Rattle.std.specs.List.{flat_map, prefix_len, AllByRecursion}
 use Rattle.std.proofs.lemmas.List.{append-nil, map-append, get_or-map, take-map, drop-map}
 use Rattle.std.proofs.ByRecursion.{All-get_or, All-map}
 use Rattle.std.proofs.lemmas.List.Sums.{prefix_len-drop_yes, prefix_len-drop_no, prefix_len-drop_all}
@@ -114,12 +114,12 @@ module _ {E : Type 0} (size : E → ℕ) (join : E → E → E) (covering : E �
     abbrev t : Tree E (suc k)
     t = below f (suc k) at
 
-    pub cut_inner_none : (h : ℕ) → h ≡ suc k → All (λ x. sought f k x ≡ None) (f at) → cut size join covering e c h (below f h at) ≡ None
+    pub cut_inner_none : (h : ℕ) → h ≡ suc k → AllByRecursion (λ x. sought f k x ≡ None) (f at) → cut size join covering e c h (below f h at) ≡ None
     cut_inner_none h z all =
         subst (λ m. cut size join covering e c m (below f m at) ≡ None) (sym z)
         (ap (cut_inner size join e k t) (first_some_missed here t (All-map (λ p. here p ≡ None) (seen f (suc k)) (f at) all)))
 
-    cut_inner_some : (i : ℕ) (d : Entry E) (left : Remains E k) → i < length (f at) → get_or (f at) i d ≡ d → All (λ x. sought f k x ≡ None) (take i (f at)) → sought f k d ≡ Some left
+    cut_inner_some : (i : ℕ) (d : Entry E) (left : Remains E k) → i < length (f at) → get_or (f at) i d ≡ d → AllByRecursion (λ x. sought f k x ≡ None) (take i (f at)) → sought f k d ≡ Some left
         → cut size join covering e c (suc k) t ≡ Some (cut_at size join e k t i left)
     cut_inner_some i d left l is before found =
         let φ = seen f (suc k) in
@@ -131,7 +131,7 @@ module _ {E : Type 0} (size : E → ℕ) (join : E → E → E) (covering : E �
         (ap here (read i l ∙ ap φ is) ∙ found))
 
   module _ {places : List (Entry E)} {counts : List ℕ} {h k at i : ℕ} {d : Entry E} (child : Child places counts h k at i d) (covers : covering d.extent e ≡ true)
-      (before : All (λ x. sought (row places counts) k x ≡ None) (take i (row places counts at)))
+      (before : AllByRecursion (λ x. sought (row places counts) k x ≡ None) (take i (row places counts at)))
       {places₁ : List (Entry E)} {counts₁ : List ℕ} {again₁ : List (Entry E)} {n₁ : ℕ} (w : WasCut places counts places₁ counts₁ size join covering e c k d.code again₁ n₁) where
     abbrev f : ℕ → List (Entry E)
     f = row places counts
@@ -151,7 +151,7 @@ module _ {E : Type 0} (size : E → ℕ) (join : E → E → E) (covering : E �
     node_long = ap length (sym w.out.is) ∙ length-map (f₁ d.code) (seen f₁ k)
 
     -- the node of the entry is elsewhere than its own row
-    own_off : (P : ℕ → Type 0) → All P (used f (suc k) at) → All P (used f k d.code)
+    own_off : (P : ℕ → Type 0) → AllByRecursion P (used f (suc k) at) → AllByRecursion P (used f k d.code)
     own_off P o = child_own child P o.1
 
     at_off : Off at (used f k d.code)
@@ -225,10 +225,10 @@ module _ {E : Type 0} (size : E → ℕ) (join : E → E → E) (covering : E �
         let nil = append-nil (used f₁ k d.code) in
         let less : Pruned f f₁ (used f k d.code) (flat_map (used f₁ k) (d.code ∷ [])) = subst (Pruned f f₁ (used f k d.code)) (sym nil) out.pruned in
         let there : d.code < 256 = (child_own child (λ q. q < 256) (in_range (under f (suc k) (f at)) (child_live child))).0 in
-        let lives : All (Live f₁) (flat_map (used f₁ k) (d.code ∷ [])) = subst (All (Live f₁)) (sym nil) ((there, omega arith), out.live) in
+        let lives : AllByRecursion (Live f₁) (flat_map (used f₁ k) (d.code ∷ [])) = subst (AllByRecursion (Live f₁)) (sym nil) ((there, omega arith), out.live) in
         let still = pruned_still f f₁ f₃ k at (A ++ B) d (d.code ∷ []) (d' ∷ []) (child_perm child) (child_apart child) (child_live child) less lives refl laid other in
         let same = pruned_d f f₁ f₃ k at (A ++ B) d (d.code ∷ []) (d' ∷ []) (child_perm child) (child_apart child) (child_live child) less lives refl laid other in
-        let ab = all_unappend (λ q. f₃ q ≡ f q) (under f (suc k) A) (under f (suc k) B) (subst (All (λ q. f₃ q ≡ f q)) (under_append f (suc k) A B) still) in
+        let ab = all_unappend (λ q. f₃ q ≡ f q) (under f (suc k) A) (under f (suc k) B) (subst (AllByRecursion (λ q. f₃ q ≡ f q)) (under_append f (suc k) A B) still) in
         let z : E × Tree E k = (bound size join e (extents node), node) in
         let item-is : χ d' ≡ z =
         ap (λ l. get_or l 0 (χ d')) (same_seen f₁ f₃ (suc k) (d' ∷ []) same).0
@@ -256,7 +256,7 @@ module _ {E : Type 0} (size : E → ℕ) (join : E → E → E) (covering : E �
         (subst (λ s. WasCut places counts s counts₃ size join covering e c (suc k) at again₁ n₁) (sym stayed.stored)
         (subst (λ s. WasCut places counts wrote s size join covering e c (suc k) at again₁ n₁) (sym stayed.counted) result))
       where
-        in_range : (rs : List ℕ) → All (Live f) rs → All (λ q. q < 256) rs
+        in_range : (rs : List ℕ) → AllByRecursion (Live f) rs → AllByRecursion (λ q. q < 256) rs
         in_range [] a = tt
         in_range (q ∷ rs) a = (a.0.0, in_range rs a.1)
 

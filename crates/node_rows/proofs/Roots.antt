@@ -1,6 +1,6 @@
 -- The tree after its root was inserted into. Assumes nothing.
 use Rattle.std.proofs.Common.{◌≡◌, ℕ, suc, ◌+◌, ◌/◌, ◌<◌, List, [], ◌∷◌, map, length, get_or, Some, None, sym, ap, ◌∙◌, subst, arith}
-use Rattle.std.specs.List.{flat_map, AllByRecursion as All}
+use Rattle.std.specs.List.{flat_map, AllByRecursion}
 use Rattle.std.proofs.lemmas.List.{append-nil}
 use Rattle.std.proofs.ByRecursion.{All-weaker}
 use Rattle.extent.specs.declared.entry.Entry.{Entry}
@@ -24,7 +24,7 @@ module _ {E : Type 0} (size : E → ℕ) (join : E → E → E) {places : List (
         frame = k.frame;
         off = λ q o n. subst (Off q) nil (k.off q o n);
         apart = subst Distinct nil k.apart;
-        live = subst (All (Live f₁)) nil k.live;
+        live = subst (AllByRecursion (Live f₁)) nil k.live;
         more = λ q o. k.more q (subst (Off q) (sym nil) o);
         rest = λ q o. k.rest q (subst (Off q) (sym nil) o);
         memory = λ p d o. i.memory p d (subst (Off (p / 8)) (sym nil) o);
@@ -44,7 +44,7 @@ module _ {E : Type 0} (size : E → ℕ) (join : E → E → E) {places : List (
       let k = i.kept in
       let none : length (f₁ top) ≡ 0 = let c = count_row places₁ counts₁ i.ready top there in omega arith in
       let away : (q : ℕ) → 0 < length (f₁ q) → q ≡ top → ⊥ = λ q n z. let w = ap (λ j. length (f₁ j)) z in omega arith in
-      let same : All (λ q. f₂ q ≡ f₁ q) us = All-weaker (Live f₁) (λ q. f₂ q ≡ f₁ q) (λ q l. up.others q (away q l.1)) us k.live in
+      let same : AllByRecursion (λ q. f₂ q ≡ f₁ q) us = All-weaker (Live f₁) (λ q. f₂ q ≡ f₁ q) (λ q l. up.others q (away q l.1)) us k.live in
       let seen-is = same_seen f₁ f₂ (suc h) es same in
       let used-is : used f₂ (suc h) top ≡ top ∷ us = ap (λ z. top ∷ z) (ap (under f₂ (suc h)) here ∙ seen-is.1) in
       let tree : below f₂ (suc h) top ≡ (bound size join e (extents (below f₁ h r)), below f₁ h r) ∷ (bound size join e (extents (below f₁ h s)), below f₁ h s) ∷ [] =
@@ -60,7 +60,7 @@ module _ {E : Type 0} (size : E → ℕ) (join : E → E → E) {places : List (
         frame = λ q o n. let w = k.frame q o n in up.others q (away q (subst (λ z. 0 < length z) (sym w) n)) ∙ w;
         off = λ q o n. let w = k.frame q o n in subst (Off q) (sym used-is) (away q (subst (λ z. 0 < length z) (sym w) n), k.off q o n);
         apart = subst Distinct (sym used-is) (All-weaker (Live f₁) (λ q. top ≡ q → ⊥) (λ q l z. away q l.1 (sym z)) us k.live, k.apart);
-        live = subst (All (Live f₂)) (sym used-is)
+        live = subst (AllByRecursion (Live f₂)) (sym used-is)
             ((there, let w = ap length here in omega arith), All-weaker (Live f₁) (Live f₂) (λ q l. (l.0, subst (λ z. 0 < length z) (sym (up.others q (away q l.1))) l.1)) us k.live);
         more = λ q o. k.more q (out q o).1;
         rest = λ q o. let w = out q o in up.others q w.0 ∙ k.rest q w.1;

@@ -1,14 +1,14 @@
 -- Lists of rows that have no row in common. Assumes nothing.
 use Rattle.std.proofs.Common.{◌≡◌, ℕ, List, [], ◌∷◌, ◌++◌, map, sym, refl, ap, ◌∙◌, subst}
 use mathlib.Core.List.{Permᴰ}
-use Rattle.std.specs.List.{flat_map, AllByRecursion as All}
+use Rattle.std.specs.List.{flat_map, AllByRecursion}
 use Rattle.std.proofs.ByRecursion.{All-append}
 use Rattle.quadratic.proofs.Perms.{perm_all}
 use Rattle.node_rows.specs.Nodes.{Off, Distinct}
 
 -- ---- what holds of each element
 
-pub map_same : {X Y : Type 0} (f g : X → Y) (xs : List X) → All (λ x. f x ≡ g x) xs → map f xs ≡ map g xs
+pub map_same : {X Y : Type 0} (f g : X → Y) (xs : List X) → AllByRecursion (λ x. f x ≡ g x) xs → map f xs ≡ map g xs
 map_same f g [] h = refl
 map_same f g (x ∷ xs) h = ap (λ y. y ∷ map f xs) h.0 ∙ ap (λ ys. g x ∷ ys) (map_same f g xs h.1)
 
@@ -16,23 +16,23 @@ pub joined_map : {X Y Z : Type 0} (f : Y → List Z) (g : X → Y) (xs : List X)
 joined_map f g [] = refl
 joined_map f g (x ∷ xs) = ap (λ l. f (g x) ++ l) (joined_map f g xs)
 
-pub all_unappend : {X : Type 0} (P : X → Type 0) (xs ys : List X) → All P (xs ++ ys) → All P xs × All P ys
+pub all_unappend : {X : Type 0} (P : X → Type 0) (xs ys : List X) → AllByRecursion P (xs ++ ys) → AllByRecursion P xs × AllByRecursion P ys
 all_unappend P [] ys h = (tt, h)
 all_unappend P (x ∷ xs) ys h = let k = all_unappend P xs ys h.1 in ((h.0, k.0), k.1)
 
-pub all_unjoined : {X Y : Type 0} (P : Y → Type 0) (f : X → List Y) (xs : List X) → All P (flat_map f xs) → All (λ x. All P (f x)) xs
+pub all_unjoined : {X Y : Type 0} (P : Y → Type 0) (f : X → List Y) (xs : List X) → AllByRecursion P (flat_map f xs) → AllByRecursion (λ x. AllByRecursion P (f x)) xs
 all_unjoined P f [] h = tt
 all_unjoined P f (x ∷ xs) h = let k = all_unappend P (f x) (flat_map f xs) h in (k.0, all_unjoined P f xs k.1)
 
 -- ---- no row of the one list is in the other
 
 abbrev pub Apart : List ℕ → List ℕ → Type 0
-Apart xs ys = All (λ x. Off x ys) xs
+Apart xs ys = AllByRecursion (λ x. Off x ys) xs
 
 pub apart_flip : (xs ys : List ℕ) → Apart xs ys → Apart ys xs
 apart_flip [] ys h = none ys
   where
-    none : (zs : List ℕ) → All (λ y. Off y []) zs
+    none : (zs : List ℕ) → AllByRecursion (λ y. Off y []) zs
     none [] = tt
     none (z ∷ zs) = (tt, none zs)
 apart_flip (x ∷ xs) ys h = both ys h.0 (apart_flip xs ys h.1)

@@ -1,7 +1,7 @@
 -- After a pair was cut out below an entry: how much is left of the entry's node, and what was taken down. Assumes nothing.
 use Rattle.std.proofs.Common.{◌≡◌, ℕ, suc, ◌+◌, ◌-◌, ◌<◌, ◌≤◌, Bool, true, List, length, get_or, sym, ap, ◌∙◌, subst, arith, length-append}
 use lib.ListN.{length-map}
-use Rattle.std.specs.List.{AllByRecursion as All}
+use Rattle.std.specs.List.{AllByRecursion}
 use Rattle.std.proofs.lemmas.List.{get_or-map}
 use Rattle.std.proofs.ByRecursion.{All-get_or}
 use Rattle.extent.specs.declared.entry.Entry.{Entry}
@@ -26,10 +26,10 @@ module _ {E : Type 0} {places : List (Entry E)} {counts : List ℕ} {h k at i : 
   abbrev f : ℕ → List (Entry E)
   f = row places counts
 
-  pub child_filled : All (Filled h) (below f h at) → Shaped 3 k (below f k d.code)
+  pub child_filled : AllByRecursion (Filled h) (below f h at) → Shaped 3 k (below f k d.code)
   child_filled all =
       let φ = seen f (suc k) in
-      let each : All (Filled (suc k)) (below f (suc k) at) = subst (λ m. All (Filled m) (below f m at)) child.inner all in
+      let each : AllByRecursion (Filled (suc k)) (below f (suc k) at) = subst (λ m. AllByRecursion (Filled m) (below f m at)) child.inner all in
       subst (Filled (suc k)) (get_or-map φ (f at) i d (φ d) (child_in child) ∙ ap φ (child_is child))
       (All-get_or (Filled (suc k)) (below f (suc k) at) i (φ d) (let l = length-map (f at) φ in let s = child_in child in omega arith) each)
 

@@ -5,7 +5,7 @@ use mathlib.Core.Logic.{∥∥₁_elim}
 use native.Mathlib.Bridge.{le_prop}
 use native.Mathlib.Nat.{ℕ_set}
 use std.HLevel.{¬_prop}
-use Rattle.std.specs.List.{AllByRecursion as All}
+use Rattle.std.specs.List.{AllByRecursion}
 use Rattle.std.proofs.lemmas.List.{get_or_past}
 use Rattle.std.proofs.lemmas.Bool.{cases_lt}
 use Rattle.extent.specs.declared.entry.Entry.{Entry}
@@ -30,7 +30,7 @@ perm_length (Permᴰ.trans p q) = perm_length p ∙ perm_length q
 
 -- ---- what such a tree states has one proof at most, so it comes out of a truncation
 
-all_prop : {X : Type 0} (P : X → Type 0) → ((x : X) → IsProp (P x)) → (xs : List X) → IsProp (All P xs)
+all_prop : {X : Type 0} (P : X → Type 0) → ((x : X) → IsProp (P x)) → (xs : List X) → IsProp (AllByRecursion P xs)
 all_prop P one [] p q = refl
 all_prop P one (x ∷ xs) p q = λ i. (one x p.0 q.0 i, all_prop P one xs p.1 q.1 i)
 

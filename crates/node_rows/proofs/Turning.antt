@@ -1,6 +1,6 @@
 -- One turn of the walk over the entries of an inner node, below one of which a pair may be cut out. Assumes nothing.
 use Rattle.std.proofs.Common.{◌≡◌, ℕ, ◌+◌, ◌-◌, ◌*◌, ◌<◌, ◌≤◌, Bool, true, false, cond, List, length, get_or, take, None, sym, ap, ◌∙◌, subst, subst₂, inl, inr, arith, take_all}
-use Rattle.std.specs.List.{AllByRecursion as All}
+use Rattle.std.specs.List.{AllByRecursion}
 use Rattle.std.proofs.ByRecursion.{All-more}
 use Rattle.std.proofs.lemmas.Bool.{cases_lt}
 use Rattle.extent.specs.declared.entry.Entry.{Entry}
@@ -25,12 +25,12 @@ module _ {E : Type 0} (size : E → ℕ) (join : E → E → E) (covering : E �
 
   -- nothing is found below the first i entries
   abbrev pub Missed : ℕ → Type 0
-  Missed i = All (λ x. sought size join covering e c f k x ≡ None) (take i (f at))
+  Missed i = AllByRecursion (λ x. sought size join covering e c f k x ≡ None) (take i (f at))
 
   pub missed_all : (i : ℕ) → get_or counts at 0 ≤ i → Missed i → cut size join covering e c h (below f h at) ≡ None
   missed_all i l missed =
       let n = count_row places counts ready at placed.there in
-      cut_inner_none size join covering e c f k at h (omega arith) (subst (All (λ x. sought size join covering e c f k x ≡ None)) (take_all i (f at) (omega arith)) missed)
+      cut_inner_none size join covering e c f k at h (omega arith) (subst (AllByRecursion (λ x. sought size join covering e c f k x ≡ None)) (take_all i (f at) (omega arith)) missed)
 
   -- the rows as they are at this turn, `now-places` and `now-counts`, are as they were
   module _ {now-places : List (Entry E)} {now-counts : List ℕ} (same : now-places ≡ places) (same-counts : now-counts ≡ counts) {i : ℕ} {d : Entry E}
@@ -47,8 +47,8 @@ module _ {E : Type 0} (size : E → ℕ) (join : E → E → E) (covering : E �
     pub turn_placed : Placed g k d.code
     turn_placed = subst₂ (λ p q. Placed (row p q) k d.code) (sym same) (sym same-counts) (child_placed turn_child)
 
-    pub turn_filled : All (Filled h) (below f h at) → All (Filled k) (below g k d.code)
-    turn_filled all = subst₂ (λ p q. All (Filled k) (below (row p q) k d.code)) (sym same) (sym same-counts) (child_filled turn_child all).1
+    pub turn_filled : AllByRecursion (Filled h) (below f h at) → AllByRecursion (Filled k) (below g k d.code)
+    turn_filled all = subst₂ (λ p q. AllByRecursion (Filled k) (below (row p q) k d.code)) (sym same) (sym same-counts) (child_filled turn_child all).1
 
     pub turn_pairs : length (pairs k (below g k d.code)) ≤ length (pairs h (below f h at))
     turn_pairs = subst₂ (λ p q. length (pairs k (below (row p q) k d.code)) ≤ length (pairs h (below f h at))) (sym same) (sym same-counts) (child_pairs turn_child)
@@ -81,7 +81,7 @@ module _ {E : Type 0} (size : E → ℕ) (join : E → E → E) (covering : E �
       pub turn_off : Off at (used f₁ k d.code)
       turn_off = settle_off size join covering e c turn_child w
 
-      module _ (laws : Joining join covering) (antisymmetric : (a b : E) → covering a b ≡ true → covering b a ≡ true → a ≡ b) (filled : All (Filled h) (below f h at)) where
+      module _ (laws : Joining join covering) (antisymmetric : (a b : E) → covering a b ≡ true → covering b a ≡ true → a ≡ b) (filled : AllByRecursion (Filled h) (below f h at)) where
         pub turn_left : Placed f₁ k d.code
         turn_left = settle_placed size join covering e c turn_child w (let a = was_cut_long size join covering laws antisymmetric e c w 3 (child_filled turn_child filled) in omega arith)
 

@@ -1,6 +1,6 @@
 -- Rows in use, and what becomes of them when an entry is added below one. A row is in use where it has entries. Assumes nothing.
 use Rattle.std.specs.Prelude.{◌≡◌, ℕ, zero, suc, ◌+◌, ◌*◌, ◌/◌, ◌<◌, ◌≤◌, true, false, List, [], ◌∷◌, ◌++◌, map, length, take, drop, Some, None, Option, ◌≢◌, slice_index, slice_index_or, slice_set}
-use Rattle.std.specs.List.{flat_map, AllByRecursion as All}
+use Rattle.std.specs.List.{flat_map, AllByRecursion}
 use Rattle.extent.specs.declared.entry.Entry.{Entry}
 use Rattle.quadratic.specs.Split.{part}
 use Rattle.guttman.specs.Trees.{Item, Tree, Grown, One, Two, add, insert, rooted}
@@ -9,7 +9,7 @@ use Rattle.node_rows.specs.Rows.{row, item, below, under, used}
 
 -- q is none of the rows
 abbrev pub Off : ℕ → List ℕ → Type 0
-Off q rs = All (λ k. q ≢ k) rs
+Off q rs = AllByRecursion (λ k. q ≢ k) rs
 
 -- no row stands twice
 abbrev pub Distinct : List ℕ → Type 0
@@ -66,7 +66,7 @@ module _ {E : Type 0} where
   pub record Placed (f : ℕ → List (Entry E)) (h r : ℕ) : Type 0 where
     pub there : r < 256
     pub full : 0 < h → 0 < length (f r)
-    pub live : All (Live f) (under f h (f r))
+    pub live : AllByRecursion (Live f) (under f h (f r))
     pub apart : Distinct (used f h r)
 
   -- the rows of a tree that was at r, and is now at the rows rs. No row changed that was in use elsewhere, and none of those is taken; those
@@ -75,7 +75,7 @@ module _ {E : Type 0} where
     pub frame : (q : ℕ) → Off q (used f h r) → 0 < length (f q) → f' q ≡ f q
     pub off : (q : ℕ) → Off q (used f h r) → 0 < length (f q) → Off q (flat_map (used f' h) rs)
     pub apart : Distinct (flat_map (used f' h) rs)
-    pub live : All (Live f') (flat_map (used f' h) rs)
+    pub live : AllByRecursion (Live f') (flat_map (used f' h) rs)
     pub more : (q : ℕ) → Off q (flat_map (used f' h) rs) → Off q (used f h r)
     pub rest : (q : ℕ) → Off q (flat_map (used f' h) rs) → f' q ≡ f q
 
@@ -130,7 +130,7 @@ module _ {E : Type 0} (places : List (Entry E)) (counts : List ℕ) (places' : L
       pub others : (q : ℕ) → Off q (halves r o) → row places' counts' q ≡ row places counts q
       pub clear : (q : ℕ) → 0 < length (row places counts q) → (q ≢ r) → Off q (halves r o)
       pub distinct : Distinct (halves r o)
-      pub live : All (Live (row places' counts')) (halves r o)
+      pub live : AllByRecursion (Live (row places' counts')) (halves r o)
       pub memory : Untouched places places' (halves r o)
 
     -- the tree at r, and at the new row, is what the insertion makes of it
@@ -149,7 +149,7 @@ module _ {E : Type 0} (places : List (Entry E)) (counts : List ℕ) (places' : L
       pub frame : (q : ℕ) → Off q (used (row places counts) h r) → 0 < length (row places counts q) → row places' counts' q ≡ row places counts q
       pub off : (q : ℕ) → Off q (used (row places counts) h r) → 0 < length (row places counts q) → Off q (used (row places' counts') h' r')
       pub apart : Distinct (used (row places' counts') h' r')
-      pub live : All (Live (row places' counts')) (used (row places' counts') h' r')
+      pub live : AllByRecursion (Live (row places' counts')) (used (row places' counts') h' r')
       pub more : (q : ℕ) → Off q (used (row places' counts') h' r') → Off q (used (row places counts) h r)
       pub rest : (q : ℕ) → Off q (used (row places' counts') h' r') → row places' counts' q ≡ row places counts q
       pub memory : Untouched places places' (used (row places' counts') h' r')

@@ -1,7 +1,7 @@
 -- What becomes of the rows of a tree when a pair is cut out of it: entries leave a row, rows are given up, and pairs are taken down to be
 -- inserted again. Assumes nothing.
 use Rattle.std.specs.Prelude.{◌≡◌, ℕ, ◌+◌, ◌*◌, Bool, not, ◌⊎◌, List, [], ◌∷◌, ◌++◌, map, length, take, Some, ◌≢◌, slice_index, slice_set}
-use Rattle.std.specs.List.{prefix_len, AllByRecursion as All}
+use Rattle.std.specs.List.{prefix_len, AllByRecursion}
 use Rattle.extent.specs.declared.entry.Entry.{Entry}
 use Rattle.guttman.specs.Trees.{Tree, bound}
 use Rattle.guttman.specs.Shape.{pairs}
@@ -50,7 +50,7 @@ module _ {E : Type 0} (places : List (Entry E)) (counts : List ℕ) (places' : L
     pub ready : Ready places' counts'
     pub is : below (row places' counts') h r ≡ s
     pub pruned : Pruned (row places counts) (row places' counts') (used (row places counts) h r) (used (row places' counts') h r)
-    pub live : All (Live (row places' counts')) (under (row places' counts') h (row places' counts' r))
+    pub live : AllByRecursion (Live (row places' counts')) (under (row places' counts') h (row places' counts' r))
     pub memory : Untouched places places' (used (row places counts) h r)
 
   module _ (size : E → ℕ) (join : E → E → E) where

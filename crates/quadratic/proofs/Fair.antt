@@ -1,6 +1,6 @@
 -- However the extents lie, each of the nine gets a letter, and each letter goes to at least three. Assumes nothing.
 use Rattle.std.proofs.Common.{◌≡◌, ℕ, zero, suc, ◌+◌, ◌<◌, ◌≤◌, Bool, true, false, cond, eqb, ◌⊎◌, List, [], ◌∷◌, length, get_or, set, replicate, Some, None, Option, sym, refl, ap, ◌∙◌, subst, inl, inr, arith, length-set, get_or-set_other}
-use Rattle.std.specs.List.{AllByRecursion as All}
+use Rattle.std.specs.List.{AllByRecursion}
 use Rattle.std.proofs.ByRecursion.{All-set}
 use Rattle.std.proofs.lemmas.List.{get_or-replicate}
 use Rattle.std.proofs.lemmas.Bool.{both_ways, eq-eqb}
@@ -17,7 +17,7 @@ Letter l = (l ≡ 0) ⊎ Lettered l
 -- what is kept: A has as many entries as letters, so has B, as many have no letter as remain, and either group can still come to three
 pub record Fair (ls : List ℕ) (na nb : ℕ) : Type 0 where
   pub nine : length ls ≡ 9
-  pub letters : All Letter ls
+  pub letters : AllByRecursion Letter ls
   pub in_a : tally 65 ls ≡ na
   pub in_b : tally 66 ls ≡ nb
   pub in_none : tally 0 ls ≡ remaining na nb
@@ -85,7 +85,7 @@ fair_start i j l lj =
     fair_b (set r i 65) j one.nine lj zj 1 0 one (λ e. omega arith)
 
 -- letters without the number 0
-lettered : (ls : List ℕ) → All Letter ls → tally 0 ls ≡ 0 → All Lettered ls
+lettered : (ls : List ℕ) → AllByRecursion Letter ls → tally 0 ls ≡ 0 → AllByRecursion Lettered ls
 lettered [] h e = tt
 lettered (l ∷ ls) h e =
     elim h.0 [
@@ -163,7 +163,7 @@ module _ {E : Type 0} (size : E → ℕ) (join : E → E → E) (x : ℕ → E) 
       (fair_next (shared size join x n) ih.0 (omega arith), omega arith)
 
   -- nine letters, three to six of them A, and the others B
-  pub split9_fair : (length (split9 size join x) ≡ 9) × (3 ≤ tally 65 (split9 size join x)) × (tally 65 (split9 size join x) ≤ 6) × All Lettered (split9 size join x)
+  pub split9_fair : (length (split9 size join x) ≡ 9) × (3 ≤ tally 65 (split9 size join x)) × (tally 65 (split9 size join x) ≤ 6) × AllByRecursion Lettered (split9 size join x)
   unfolding split9
   split9_fair =
       let s = shared_fair 7 (omega arith) in

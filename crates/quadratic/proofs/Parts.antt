@@ -2,7 +2,7 @@
 use Rattle.std.proofs.Common.{◌≡◌, ℕ, suc, ◌+◌, Bool, true, false, cond, eqb, List, [], ◌∷◌, ◌++◌, map, length, refl, ap, arith}
 use mathlib.Core.List.Permᴰ
 use mathlib.Core.List.{Permᴰ}
-use Rattle.std.specs.List.{AllByRecursion as All}
+use Rattle.std.specs.List.{AllByRecursion}
 use Rattle.quadratic.specs.Sharing.{tally}
 use Rattle.quadratic.specs.Split.{part}
 
@@ -33,13 +33,13 @@ module _ {X : Type 0} where
         | false ↦ (omega arith, omega arith)
       ]
 
-  pub part_all : (P : X → Type 0) (t : Bool) (ls : List ℕ) (xs : List X) → All P xs → All P (part t ls xs)
+  pub part_all : (P : X → Type 0) (t : Bool) (ls : List ℕ) (xs : List X) → AllByRecursion P xs → AllByRecursion P (part t ls xs)
   part_all P t [] xs h = tt
   part_all P t (l ∷ ls) [] h = tt
   part_all P true (l ∷ ls) (x ∷ xs) h =
-      elim (eqb l 65) as (λ t. All P (cond t (x ∷ part true ls xs) (part true ls xs))) [ true ↦ (h.0, part_all P true ls xs h.1) | false ↦ part_all P true ls xs h.1 ]
+      elim (eqb l 65) as (λ t. AllByRecursion P (cond t (x ∷ part true ls xs) (part true ls xs))) [ true ↦ (h.0, part_all P true ls xs h.1) | false ↦ part_all P true ls xs h.1 ]
   part_all P false (l ∷ ls) (x ∷ xs) h =
-      elim (eqb l 65) as (λ t. All P (cond t (part false ls xs) (x ∷ part false ls xs))) [ true ↦ part_all P false ls xs h.1 | false ↦ (h.0, part_all P false ls xs h.1) ]
+      elim (eqb l 65) as (λ t. AllByRecursion P (cond t (part false ls xs) (x ∷ part false ls xs))) [ true ↦ part_all P false ls xs h.1 | false ↦ (h.0, part_all P false ls xs h.1) ]
 
   -- one more letter and one more element
   pub part_more : (t : Bool) (ls : List ℕ) (l : ℕ) (xs : List X) (x : X) → length ls ≡ length xs → part t (ls ++ (l ∷ [])) (xs ++ (x ∷ [])) ≡ part t ls xs ++ part t (l ∷ []) (x ∷ [])

@@ -3,7 +3,7 @@ use Rattle.std.proofs.Common.{◌≡◌, ℕ, suc, ◌<◌, List, [], ◌∷◌,
 use mathlib.Core.List.Permᴰ
 use mathlib.Core.List.{Permᴰ}
 use lib.Seq.{split_at, set_split}
-use Rattle.std.specs.List.{flat_map, AllByRecursion as All}
+use Rattle.std.specs.List.{flat_map, AllByRecursion}
 use Rattle.std.proofs.lemmas.List.{append-nil}
 
 pub map_map : {X Y Z : Type 0} (g : Y → Z) (f : X → Y) (xs : List X) → map g (map f xs) ≡ map (λ x. g (f x)) xs
@@ -27,7 +27,7 @@ module _ {X : Type 0} where
   pub perm_last : (xs : List X) (x : X) → Permᴰ (xs ++ (x ∷ [])) (x ∷ xs)
   perm_last xs x = Permᴰ.trans (Permᴰ.middle x xs []) (Permᴰ.cons refl (perm_same (append-nil xs)))
 
-  pub perm_all : (P : X → Type 0) {xs ys : List X} → Permᴰ xs ys → All P xs → All P ys
+  pub perm_all : (P : X → Type 0) {xs ys : List X} → Permᴰ xs ys → AllByRecursion P xs → AllByRecursion P ys
   perm_all P Permᴰ.nil h = tt
   perm_all P (Permᴰ.cons e p) h = (subst P e h.0, perm_all P p h.1)
   perm_all P (Permᴰ.swap e k) h = (subst P k h.1.0, (subst P e h.0, h.1.1))

@@ -1,6 +1,6 @@
 -- What holds of the letters of nine entries, whatever their extents. The letter 65 is 'A' and 66 is 'B'. Assumes nothing.
 use Rattle.std.specs.Prelude.{◌≡◌, ℕ, ◌+◌, ◌<◌, ◌≤◌, cond, ◌⊎◌, List, [], ◌∷◌, map, length, ◌==◌}
-use Rattle.std.specs.List.{AllByRecursion as All}
+use Rattle.std.specs.List.{AllByRecursion}
 use Rattle.quadratic.specs.Choosing.{NextOf, Seeds}
 use Rattle.quadratic.specs.Split.{remaining, sizes, join_sizes_lem, growths, seeds, next, shared}
 
@@ -16,7 +16,7 @@ Lettered l = (l ≡ 65) ⊎ (l ≡ 66)
 -- nine are shared out: each is in one group, and either group has at least three
 pub record SharedOut (ls : List ℕ) : Type 0 where
   pub nine : length ls ≡ 9
-  pub grouped : All Lettered ls
+  pub grouped : AllByRecursion Lettered ls
   pub three_in_a : 3 ≤ tally 65 ls
   pub three_in_b : 3 ≤ tally 66 ls
 

@@ -1,2 +1,3 @@
+pub use Rattle.quadratic.specs.Choosing
 pub mod Nine
 pub mod Sharing

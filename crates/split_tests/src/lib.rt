@@ -1,4 +1,5 @@
 //! Tests of the quadratic split and of its choosing steps.
 #![tactic(auto)]
+
 #[cfg(test)]
 mod tests;

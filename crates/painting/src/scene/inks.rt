@@ -1,6 +1,6 @@
 ghost use Rattle.std.specs.Prelude.{◌≡◌, ◌<◌};
 ghost use Rattle.std.specs.Option.{unwrap_or, option_map};
-ghost use Rattle.painting.specs.Drawing.{holds as Holds-Frame, span_ink, ruling, RulingInk, shape_ink, painting, Fresh};
+ghost use Rattle.painting.specs.Drawing.{holds as holds_frame, span_ink, ruling, RulingInk, shape_ink, painting, Fresh};
 ghost use Rattle.painting.specs.Scenes.{drawing, item, turn, at_number};
 
 use super::{Placed, Scene, Span};
@@ -9,7 +9,7 @@ use raster::ink::Ink;
 impl Span {
     /// Whether the span names the shape of that number and holds the frame.
     pub fn holds(self, number: u16, frame: u16) -> bool
-        ensures { result ≡ Holds-Frame (turn self) number frame }
+        ensures { result ≡ holds_frame (turn self) number frame }
     {
         self.shape == number && (self.from <= frame && frame <= self.to)
     }
