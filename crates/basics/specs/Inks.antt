@@ -1,6 +1,7 @@
 -- Inks and their colours. Assumes nothing.
 use Rattle.std.specs.Prelude.{◌≡◌, ℕ, ◌-◌, ◌*◌, ◌/◌, ◌%◌, ◌<◌, ◌≤◌, Ok, Err, Result}
 use Rattle.basics.specs.declared.ink.Ink.{Ink}
+use Rattle.basics.specs.declared.ink.colour.Colour.{Colour}
 use Rattle.basics.specs.declared.refusal.Refusal.{Refusal}
 use Rattle.basics.specs.Refusals.{number}
 
@@ -22,3 +23,7 @@ green_of k = shade (k / 8 % 2) (k / 2 % 2)
 
 abbrev pub blue_of : ℕ → ℕ
 blue_of k = shade (k / 8 % 2) (k / 1 % 2)
+
+-- a colour is that of an ink
+abbrev pub ColourOf : ℕ → Colour → Type 0
+ColourOf ink c = (c.red ≡ red_of ink) × (c.green ≡ green_of ink) × (c.blue ≡ blue_of ink)

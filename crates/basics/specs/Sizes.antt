@@ -14,9 +14,13 @@ abbrev pub SizeOf : ℕ → ℕ → Result Size Refusal → Type 0
 SizeOf w h (Ok s) = (Side w × Side h) × ((s.width ≡ w) × (s.height ≡ h))
 SizeOf w h (Err e) = (Side w × Side h → ⊥) × (number e ≡ 3)
 
--- the number of the tile of pixel (x, y): tiles are squares of 16 pixels, and a row of tiles has (width + 15) / 16
+-- how many tiles stand side by side: tiles are squares of 16 pixels, of which the last may reach past the sheet
+abbrev pub across : ℕ → ℕ
+across width = (width + 15) / 16
+
+-- the number of the tile of pixel (x, y): row by row, from the left
 abbrev pub tile_of : ℕ → ℕ → ℕ → ℕ
-tile_of width x y = y / 16 * ((width + 15) / 16) + x / 16
+tile_of width x y = y / 16 * across width + x / 16
 
 -- the place of pixel (x, y) in its tile: row by row, 16 to a row
 abbrev pub place : ℕ → ℕ → ℕ

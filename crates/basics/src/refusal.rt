@@ -1,5 +1,5 @@
 ghost use Rattle.std.specs.Prelude.{◌≡◌};
-ghost use Rattle.basics.specs.Refusals.{number as number_of_lem};
+ghost use Rattle.basics.specs.Refusals.{number};
 
 /// Why a call was refused. Each case has its number, which users of a panel know.
 #[derive(Clone, Copy, PartialEq, Eq, Debug)]
@@ -42,10 +42,11 @@ pub enum Refusal {
     Room = 32,
 }
 
-impl Refusal {
-    pub fn number(self) -> u8
-        ensures { result ≡ number_of_lem self }
-    {
-        self as u8
+impl From<Refusal> for u8 {
+    ghost from_gives = { λ refusal n. n ≡ number refusal };
+
+    /// The number of a refusal.
+    fn from(refusal: Refusal) -> u8 {
+        refusal as u8
     }
 }

@@ -28,7 +28,8 @@ pub enum Shape {
 }
 
 /// A box of pixels: those from left and top on that lie before right and bottom.
-#[derive(Clone, Copy)]
+// Not the `PlaneBox` of extents, whose last edges count: this one may be empty, and may reach past any sheet.
+#[derive(Clone, Copy, PartialEq, Eq)]
 pub struct Bounds {
     pub left: u32,
     pub top: u32,

@@ -1,5 +1,5 @@
-ghost use Rattle.std.specs.Prelude.{◌≡◌, ◌≤◌};
-ghost use Rattle.basics.specs.Inks.{InkOf, red_of, green_of, blue_of};
+ghost use Rattle.std.specs.Prelude.{◌≡◌, ◌≤◌, [], ◌∷◌};
+ghost use Rattle.basics.specs.Inks.{InkOf, ColourOf};
 
 use super::Ink;
 use crate::refusal::Refusal;
@@ -12,11 +12,13 @@ pub struct Colour {
     pub blue: u8,
 }
 
-impl Ink {
+impl TryFrom<u16> for Ink {
+    type Error = Refusal;
+
+    ghost try_from_gives = { InkOf };
+
     /// The ink of that number; refuses with 9 above 15.
-    pub fn new(value: u16) -> Result<Ink, Refusal>
-        ensures { InkOf value result }
-    {
+    fn try_from(value: u16) -> Result<Ink, Refusal> {
         if value > 15 {
             return Err(Refusal::Figures);
         }
@@ -24,11 +26,20 @@ impl Ink {
     }
 }
 
-impl Colour {
+impl From<Colour> for [u8; 3] {
+    ghost from_gives = { λ colour parts. parts ≡ colour.red ∷ colour.green ∷ colour.blue ∷ [] };
+
+    /// Its red, green and blue, in this order.
+    fn from(colour: Colour) -> [u8; 3] {
+        [colour.red, colour.green, colour.blue]
+    }
+}
+
+impl From<u8> for Colour {
+    ghost from_gives = { ColourOf };
+
     /// The colour of an ink, by its bits; of a larger number, that of its lowest four bits.
-    pub fn of_ink(ink: u8) -> Colour
-        ensures { (result.red ≡ red_of ink) × (result.green ≡ green_of ink) × (result.blue ≡ blue_of ink) }
-    {
+    fn from(ink: u8) -> Colour {
         let dim = 255 - 85 * (ink / 8 % 2);
         Colour {
             red: dim - 170 * (ink / 4 % 2),

@@ -14,8 +14,7 @@ const COLOURS: [(u8, [u8; 3]); 6] = [
 #[test]
 fn colours_of_inks(rt: HostRuntime) {
     for (ink, parts) in COLOURS {
-        let colour = Colour::of_ink(ink);
-        assert_eq!(rt; [colour.red, colour.green, colour.blue], parts);
+        assert_eq!(rt; <[u8; 3]>::from(Colour::from(ink)), parts);
     }
 }
 

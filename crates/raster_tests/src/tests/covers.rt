@@ -2,8 +2,9 @@ ghost use Rattle.std.specs.Prelude.{◌≡◌, ℕ, ◌<◌, length, OnOk, slice
 ghost use Rattle.raster.specs.Fonts.{built_in};
 ghost use Rattle.raster.specs.Shapes.{covers as covers_pixel};
 
+use super::{area, figure};
 use raster::font::Font;
-use raster::shape::{Cell, Rect, Shape};
+use raster::shape::Shape;
 use std::process::Abort;
 use std::test::Fail;
 
@@ -25,28 +26,18 @@ fn check_each(
 
 #[test]
 fn edges_of_a_box(rt: HostRuntime) -> Result<(), Fail> {
-    let area = Shape::Box(Rect {
-        x: 2,
-        y: 3,
-        w: 4,
-        h: 2,
-    });
-    check_each(&rt, area, &[(2, 3), (5, 3), (2, 4), (5, 4)], true)?;
-    check_each(&rt, area, &[(1, 3), (6, 3), (2, 2), (2, 5)], false)
+    let shape = area(2, 3, 4, 2);
+    check_each(&rt, shape, &[(2, 3), (5, 3), (2, 4), (5, 4)], true)?;
+    check_each(&rt, shape, &[(1, 3), (6, 3), (2, 2), (2, 5)], false)
 }
 
 #[test]
 fn box_in_the_last_corner(rt: HostRuntime) -> Result<(), Fail> {
-    let area = Shape::Box(Rect {
-        x: 65534,
-        y: 65535,
-        w: 65535,
-        h: 1,
-    });
-    check_each(&rt, area, &[(65534, 65535), (65535, 65535)], true)?;
+    let shape = area(65534, 65535, 65535, 1);
+    check_each(&rt, shape, &[(65534, 65535), (65535, 65535)], true)?;
     check_each(
         &rt,
-        area,
+        shape,
         &[(65533, 65535), (65535, 65534), (0, 65535)],
         false,
     )
@@ -54,11 +45,7 @@ fn box_in_the_last_corner(rt: HostRuntime) -> Result<(), Fail> {
 
 #[test]
 fn figure_zero(rt: HostRuntime) -> Result<(), Fail> {
-    let zero = Shape::Figure(Cell {
-        x: 0,
-        y: 0,
-        glyph: 0,
-    });
+    let zero = figure(0, 0, 0);
     check_each(
         &rt,
         zero,
@@ -75,11 +62,7 @@ fn figure_zero(rt: HostRuntime) -> Result<(), Fail> {
 
 #[test]
 fn figure_point(rt: HostRuntime) -> Result<(), Fail> {
-    let point = Shape::Figure(Cell {
-        x: 10,
-        y: 20,
-        glyph: 11,
-    });
+    let point = figure(10, 20, 11);
     check_each(&rt, point, &[(17, 33), (17, 34)], true)?;
     check_each(
         &rt,
@@ -91,14 +74,5 @@ fn figure_point(rt: HostRuntime) -> Result<(), Fail> {
 
 #[test]
 fn glyph_past_the_last(rt: HostRuntime) -> Result<(), Fail> {
-    check_each(
-        &rt,
-        Shape::Figure(Cell {
-            x: 0,
-            y: 0,
-            glyph: 16,
-        }),
-        &[(2, 1), (1, 2)],
-        false,
-    )
+    check_each(&rt, figure(0, 0, 16), &[(2, 1), (1, 2)], false)
 }

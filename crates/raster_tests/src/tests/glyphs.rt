@@ -7,8 +7,8 @@ const CHARACTERS: [char; 16] = [
 
 #[test]
 fn codes(rt: HostRuntime) {
-    for g in 0..16u16 {
-        assert_eq!(rt; glyph_code(CHARACTERS[g as usize]), Some(g));
+    for (code, character) in (0..16).zip(CHARACTERS) {
+        assert_eq!(rt; glyph_code(character), Some(code));
     }
 }
 

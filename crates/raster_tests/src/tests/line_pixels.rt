@@ -1,75 +1,36 @@
 ghost use Rattle.std.specs.Prelude.{◌≡◌, true, [], ◌∷◌};
 ghost use Rattle.std.specs.List.{slice_get};
-ghost use Rattle.std.specs.Option.{option_to_list};
 ghost use Rattle.raster.specs.Lines.{pixels, among};
 
+use super::line;
 use raster::shape::Ends;
-
-/// The line from (x0, y0) to (x1, y1).
-fn line(x0: u16, y0: u16, x1: u16, y1: u16) -> Ends
-    ensures { (result.x0 ≡ x0) × (result.y0 ≡ y0) × (result.x1 ≡ x1) × (result.y1 ≡ y1) }
-{
-    Ends { x0, y0, x1, y1 }
-}
 
 /// The first six pixels of a line, as it lists them.
 fn first_six(line: Ends) -> [Option<(u16, u16)>; 6]
     ensures { result ≡ slice_get (pixels line) 0 ∷ slice_get (pixels line) 1 ∷ slice_get (pixels line) 2 ∷ slice_get (pixels line) 3 ∷ slice_get (pixels line) 4 ∷ slice_get (pixels line) 5 ∷ [] }
 {
-    [
-        line.pixel(0),
-        line.pixel(1),
-        line.pixel(2),
-        line.pixel(3),
-        line.pixel(4),
-        line.pixel(5),
-    ]
-}
-
-/// Whether there is a pixel, and it is (x, y).
-fn is_at(pixel: Option<(u16, u16)>, x: u16, y: u16) -> bool
-    ensures { result ≡ among (option_to_list pixel) x y }
-{
-    match pixel {
-        Some((u, v)) => u == x && v == y,
-        None => false,
-    }
+    [0, 1, 2, 3, 4, 5].map(|i| line.pixel(i))
 }
 
 /// Whether the pixel (x, y) is one of those that a line lists.
 fn lists(line: Ends, x: u16, y: u16) -> bool
     ensures { result ≡ among (pixels line) x y }
 {
-    let mut found = false;
-    for i in 0..line.count() {
-        let here = is_at(line.pixel(i), x, y);
-        found = found || here;
-    }
-    found
+    line.pixels().any(|pixel| pixel == (x, y))
 }
 
 /// Whether a line covers exactly the pixels that it lists, in row y from column 0 to 15.
 fn row_agrees(line: Ends, y: u16) -> bool
     ensures { result ≡ true }
 {
-    for x in 0..16 {
-        if line.covers(x, y) != lists(line, x, y) {
-            return false;
-        }
-    }
-    true
+    (0..16).all(|x| line.covers(x, y) == lists(line, x, y))
 }
 
 /// Whether a line covers exactly the pixels that it lists, on 16 by 16 pixels.
 fn agrees(line: Ends) -> bool
     ensures { result ≡ true }
 {
-    for y in 0..16 {
-        if !row_agrees(line, y) {
-            return false;
-        }
-    }
-    true
+    (0..16).all(|y| row_agrees(line, y))
 }
 
 /// A line in each octant, then level, upright and single.

@@ -1,18 +1,13 @@
-use Rattle.std.proofs.Common.{sym, ap, ◌∙◌, arith}
-use Rattle.std.specs.Option.{option_to_list}
-use Rattle.std.proofs.lemmas.List.{take_all}
-use Rattle.raster.specs.Lines.{pixels, among}
-use Rattle.raster_tests.proofs.Listing.{found_more}
+use Rattle.std.proofs.Common.{true, false, drop, rules, tests}
+use Rattle.std.proofs.lemmas.Iterator.{cases_from_any}
+use Rattle.std.proofs.lemmas.Iterator.Consumers.{YieldsList-from_first}
+use Rattle.raster.specs.declared.line.pixels.Pixels.{Pixels}
+use Rattle.raster.specs.Lines.{pixels}
+use Rattle.raster_tests.proofs.Listing.{Answer, found}
 use Rattle.raster_tests.proofs.tests.line_pixels.lists.Goals as goal
-use Rattle.raster_tests.proofs.tests.line_pixels.lists.Goals.{then-found, else-found}
-
-pub loop-i-preserved : goal.loop-i-preserved
-loop-i-preserved c =
-    let again = found_more (pixels c.args.line) c.loop-i.i c.args.x c.args.y c.loop-i.found c.is_at-here.result c.loop-i.invariant (c.is_at-here.ensures ∙ ap (λ o. among (option_to_list o) c.args.x c.args.y) c.pixel.ensures) in
-    elim c.if-found.branch [
-      | then-found w ↦ let e = again.0 w.if-found.true in cc
-      | else-found w ↦ let e = again.1 w.if-found.false in cc
-    ]
 
 pub returns : goal.returns
-returns c = c.loop-i.invariant ∙ ap (λ ps. among ps c.args.x c.args.y) (take_all c.loop-i.i (pixels c.args.line) (omega arith))
+returns c =
+    let ps = pixels c.args.line in
+    found ps c.args.x c.args.y c.any.result
+    (cases_from_any c.any.new.self _ _ (Answer c.args.x c.args.y true) (Answer c.args.x c.args.y false) c.any.ensures.ran (YieldsList-from_first (λ p. p) (λ (w : Pixels). drop w.places.start (pixels w.line)) ps c.pixels.ensures) (λ x q k. search (rules, tests)) (λ x q k. search (rules, tests)))
