@@ -1,18 +1,7 @@
 ghost use Rattle.std.specs.Prelude.{◌≡◌, ◌+◌, ◌-◌, ◌*◌, ◌/◌, ◌%◌, ◌^◌, ◌<◌, ◌≤◌, length, slice_index};
-ghost use Rattle.surface.specs.Bytes.{filled};
 ghost use Rattle.plane.specs.Layout.{bit_of, byte_written, bits_written, planes_written};
 
 use super::Planes;
-
-/// Writes 0 into the first n bytes.
-pub(super) fn clear(bytes: &mut [u8], n: usize)
-    requires { n ≤ length bytes.old }
-    ensures { bytes.new ≡ filled n 0 bytes.old }
-{
-    for i in 0..n {
-        bytes[i] = 0;
-    }
-}
 
 /// 2 to the number of bits of a byte from bit i on; bit 0 is the top one.
 fn above(i: usize) -> u16
@@ -44,6 +33,7 @@ fn write_bits(bytes: &mut [u8], from: usize, to: usize, bit: u8)
     requires one { bit ≤ 1 }
     ensures { bytes.new ≡ bits_written from to bit bytes.old }
 {
+    // By index: nothing is known of what is written through `iter_mut` under an adapter, and the index says which bits.
     for i in from / 8..(to + 7) / 8 {
         let lo = from.saturating_sub(8 * i);
         let hi = (to - 8 * i).min(8);

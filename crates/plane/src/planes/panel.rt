@@ -1,18 +1,19 @@
 ghost use Rattle.std.specs.Prelude.{◌≡◌, ◌<◌, MatchBool};
-ghost use Rattle.surface.specs.Calls.{Accepts, Ran, Settled};
+ghost use Rattle.surface.specs.Calls.{Ran, Settled};
 ghost use Rattle.plane.specs.Layout.{row_bytes_lem, plane_bytes_lem, plane_bit};
 ghost use Rattle.plane.specs.Panel.{Holds, Made, picture_of, picture_lawful, bytes_of, RunBytes, RestKept, SameLoan};
 
-use super::memory::{bit_at, clear};
+use super::memory::bit_at;
 use super::{PlaneSurface, Planes};
 use raster::refusal::Refusal;
+use raster::size::Size;
 use surface::surface::Surface;
 
 /// The bytes of a row of a plane.
 fn row_bytes(width: u16) -> usize
     ensures { result ≡ row_bytes_lem width }
 {
-    (width as usize + 7) / 8
+    usize::from(width).div_ceil(8)
 }
 
 /// The bytes of a plane.
@@ -26,8 +27,7 @@ fn plane_bytes(width: u16, height: u16) -> usize
 fn holds(width: u16, height: u16, room: usize) -> bool
     ensures { MatchBool result (Holds width height room) (Holds width height room → ⊥) }
 {
-    let sides = width > 0 && width <= 256 && height > 0 && height <= 256;
-    sides && 4 * plane_bytes(width, height) <= room
+    Size::new(width, height).is_ok() && 4 * plane_bytes(width, height) <= room
 }
 
 impl<'a> PlaneSurface<'a> {
@@ -44,19 +44,12 @@ impl<'a> PlaneSurface<'a> {
                 height: 0,
             };
         }
-        clear(memory, 4 * plane_bytes(width, height));
+        memory[..4 * plane_bytes(width, height)].fill(0);
         PlaneSurface {
             planes: Planes { memory },
             width,
             height,
         }
-    }
-
-    /// Whether a run has a pixel and an ink, and lies on the surface.
-    fn accepts(&self, x: u16, y: u16, n: u16, ink: u16) -> bool
-        ensures { MatchBool result (Accepts (picture_of self.now) x y n ink) (Accepts (picture_of self.now) x y n ink → ⊥) }
-    {
-        n > 0 && ink <= 15 && y < self.height && x as u32 + n as u32 <= self.width as u32
     }
 
     /// The bit of pixel (x, y) on plane k.
@@ -72,6 +65,8 @@ impl<'a> PlaneSurface<'a> {
     }
 }
 
+// Beside the byte surface's, and not one generic type with it: every line that reads or writes differs, and a ghost field
+// cannot name what a parameter's bound says of the bytes.
 impl Surface for PlaneSurface<'_> {
     ghost view = { picture_of };
 
@@ -82,7 +77,7 @@ impl Surface for PlaneSurface<'_> {
     }
 
     fn read(&self, x: u16, y: u16) -> Result<u8, Refusal> {
-        if x >= self.width || y >= self.height {
+        if !self.has(x, y) {
             return Err(Refusal::Surface);
         }
         let low = self.bit(0, x, y) + 2 * self.bit(1, x, y);

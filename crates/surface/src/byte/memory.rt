@@ -8,9 +8,7 @@ pub(super) fn fill(bytes: &mut [u8], n: usize, ink: u8)
     requires { n ≤ length bytes.old }
     ensures { bytes.new ≡ filled n ink bytes.old }
 {
-    for i in 0..n {
-        bytes[i] = ink;
-    }
+    bytes[..n].fill(ink);
 }
 
 /// Writes the ink into the n bytes from the start on.

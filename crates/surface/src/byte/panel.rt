@@ -1,19 +1,19 @@
 ghost use Rattle.std.specs.Prelude.{◌≡◌, MatchBool};
 ghost use Rattle.surface.specs.Bytes.{place};
-ghost use Rattle.surface.specs.Calls.{Accepts, Ran, Settled};
+ghost use Rattle.surface.specs.Calls.{Ran, Settled};
 ghost use Rattle.surface.specs.Panel.{Holds, Made, picture_of, picture_lawful, bytes_of, RunBytes, RestKept, SameLoan};
 
 use super::memory::fill;
 use super::{ByteSurface, Pixels};
 use crate::surface::Surface;
 use raster::refusal::Refusal;
+use raster::size::Size;
 
 /// Whether so many bytes can hold a surface of these sides.
 fn holds(width: u16, height: u16, room: usize) -> bool
     ensures { MatchBool result (Holds width height room) (Holds width height room → ⊥) }
 {
-    let sides = width > 0 && width <= 256 && height > 0 && height <= 256;
-    sides && width as usize * height as usize <= room
+    Size::new(width, height).is_ok() && width as usize * height as usize <= room
 }
 
 /// The place of the byte of pixel (x, y).
@@ -44,13 +44,6 @@ impl<'a> ByteSurface<'a> {
             height,
         }
     }
-
-    /// Whether a run has a pixel and an ink, and lies on the surface.
-    fn accepts(&self, x: u16, y: u16, n: u16, ink: u16) -> bool
-        ensures { MatchBool result (Accepts (picture_of self.now) x y n ink) (Accepts (picture_of self.now) x y n ink → ⊥) }
-    {
-        n > 0 && ink <= 15 && y < self.height && x as u32 + n as u32 <= self.width as u32
-    }
 }
 
 impl Surface for ByteSurface<'_> {
@@ -63,7 +56,7 @@ impl Surface for ByteSurface<'_> {
     }
 
     fn read(&self, x: u16, y: u16) -> Result<u8, Refusal> {
-        if x >= self.width || y >= self.height {
+        if !self.has(x, y) {
             return Err(Refusal::Surface);
         }
         let at = place_of(self.width, x, y);

@@ -4,4 +4,5 @@ use Rattle.surface.proofs.byte.panel.ByteSurfaceSurface.read.Goals as goal
 
 pub bounds-self-at : goal.bounds-self-at
 bounds-self-at c =
-    omega (arith, mul-add-lt c.args.y c.args.self.now.width c.args.x c.args.self.now.height (omega arith) (omega arith))
+    let on = c.if-not-has.ensures in
+    omega (arith, mul-add-lt c.args.y c.args.self.now.width c.args.x c.args.self.now.height on.row on.column)

@@ -1,0 +1,3 @@
+mod bytes;
+mod every;
+mod planes;
