@@ -7,12 +7,12 @@ use Rattle.raster.specs.declared.shape.Bounds.{Bounds}
 use Rattle.raster.specs.declared.shape.Shape.{Shape}
 use Rattle.raster.specs.declared.shape.Shape.TheVariants.{Box, Line, Figure}
 use Rattle.raster.specs.Shapes.{bounds_of, drawable}
-use Rattle.raster.specs.Sizes.{Side}
+use Rattle.raster.specs.Sizes.{across, Side}
 use Rattle.extent.specs.Axis.{touches}
 use Rattle.extent.specs.Boxes.{Within, Edges}
 use Rattle.extent.specs.declared.plane_box.PlaneBox.{PlaneBox}
 use Rattle.painting.specs.Drawing.{Item}
-use Rattle.book.specs.Tiles.{across, tile_box, share, meets}
+use Rattle.book.specs.Tiles.{tile_box, share, meets}
 use Rattle.book.specs.Naming.{box_of}
 use Rattle.book.specs.Sound.{Fits}
 

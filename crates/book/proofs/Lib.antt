@@ -14,4 +14,3 @@ pub mod Naming
 pub mod Boxes
 pub mod Trees
 pub mod Progress
-pub mod Tables

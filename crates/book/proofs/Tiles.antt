@@ -9,9 +9,9 @@ use Rattle.raster.specs.declared.shape.Shape.{Shape}
 use Rattle.raster.specs.declared.shape.Shape.TheVariants.{Box, Line, Figure}
 use Rattle.raster.specs.Fonts.{lit}
 use Rattle.raster.specs.Shapes.{covers, bounds_of, inside}
-use Rattle.raster.specs.Sizes.{tile_of}
+use Rattle.raster.specs.Sizes.{across, tile_of}
 use Rattle.raster.proofs.Shapes.{line_inside}
-use Rattle.book.specs.Tiles.{across, tile_box, share, meets, Meets}
+use Rattle.book.specs.Tiles.{tile_box, share, meets, Meets}
 
 -- what a shape covers lies in its bounding box
 pub covers_inside : (font : List ℕ) (s : Shape) (x y : ℕ) → covers font s x y ≡ true → inside (bounds_of s) x y ≡ true

@@ -3,11 +3,7 @@ use Rattle.std.specs.Prelude.{◌≡◌, ℕ, ◌+◌, ◌*◌, ◌/◌, ◌%◌
 use Rattle.raster.specs.declared.shape.Bounds.{Bounds}
 use Rattle.raster.specs.declared.shape.Shape.{Shape}
 use Rattle.raster.specs.Shapes.{bounds_of, inside}
-use Rattle.raster.specs.Sizes.{tile_of}
-
--- how many tiles stand side by side
-abbrev pub across : ℕ → ℕ
-across width = (width + 15) / 16
+use Rattle.raster.specs.Sizes.{across, tile_of}
 
 -- the box of tile t: a square of 16 pixels, cut off at the right and the lower edge of the sheet
 abbrev pub tile_box : ℕ → ℕ → ℕ → Bounds

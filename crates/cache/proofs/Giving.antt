@@ -4,7 +4,7 @@ use Rattle.std.proofs.lemmas.Bool.{and_parts, leb-true, ltb-true, eqb-true}
 use Rattle.surface.specs.Picture.{Picture, On}
 use Rattle.surface.specs.Calls.{OnRun}
 use Rattle.surface.proofs.Sides.{sides_then, on_again}
-use Rattle.cache.specs.Cached.{Given}
+use Rattle.handing.specs.Given.{Given}
 
 -- the later ink counts
 abbrev pub over : Option ℕ → Option ℕ → Option ℕ

@@ -1,7 +1,8 @@
 -- What the slots hold, when one of them is written. Assumes nothing.
 use Rattle.std.proofs.Common.{◌≡◌, ℕ, zero, suc, ◌<◌, ◌≤◌, true, false, cond, List, [], ◌∷◌, length, get_or, set, Some, None, Option, sym, refl, ap, ◌∙◌, ap₂, ⊎_elim, arith}
-use Rattle.std.proofs.lemmas.List.{get_or_default}
-use Rattle.std.proofs.lemmas.Bool.{cases_eq, cond-true, cond-false, both_ways, eqb-true}
+use Rattle.std.specs.List.{AllWithin, HoldsAt}
+use Rattle.std.specs.Option.{MatchOption}
+use Rattle.std.proofs.lemmas.Bool.{cases_eq, cases_lt, cond-true, cond-false, both_ways, eqb-true}
 use Rattle.std.proofs.lemmas.Bool.Decides.{nat_tests}
 use Rattle.cache.specs.declared.slot.Slot.{Slot}
 use Rattle.cache.specs.Slots.{ink_at_lem, is_tile, tile_at, same_tile, Apart, held}
@@ -78,5 +79,18 @@ tile_past [] j l = refl
 tile_past (s ∷ ss) zero l = absurd (omega arith)
 tile_past (s ∷ ss) (suc j) l = tile_past ss j (omega arith)
 
-pub tile_of_read : (ss : List Slot) (i : ℕ) (d : Slot) → i < length ss → tile_at ss i ≡ (get_or ss i d).tile
-tile_of_read ss i d l = tile_read ss i (get_or ss i d) l (get_or_default ss i d (get_or ss i d) l)
+-- a slot of which something is known
+slot_at : (ss : List Slot) (Known : Slot → Type 0) (i : ℕ) → i < length ss → HoldsAt Known ss i → (s : Slot) × Known s × (tile_at ss i ≡ s.tile)
+slot_at [] Known i l h = absurd (omega arith)
+slot_at (s ∷ ss) Known zero l h = (s, h s, refl)
+slot_at (s ∷ ss) Known (suc i) l h = slot_at ss Known i (omega arith) h
+
+-- the first slot that holds a tile, or none
+pub first_holds : (ss : List Slot) (t : ℕ) (first : Option ℕ)
+    → MatchOption first (AllWithin (λ s. is_tile s.tile t ≡ false) ss 0 (length ss)) (λ i. (i < length ss) × HoldsAt (λ s. is_tile s.tile t ≡ true) ss i × AllWithin (λ s. is_tile s.tile t ≡ false) ss 0 i)
+    → MatchOption first ((j : ℕ) → is_tile (tile_at ss j) t ≡ false) (λ i. (i < length ss) × (is_tile (tile_at ss i) t ≡ true))
+first_holds ss t None none = λ j. ⊎_elim
+    (λ l. let s = slot_at ss (λ s. is_tile s.tile t ≡ false) j l (λ d. none j d (omega arith) l) in ap (λ o. is_tile o t) s.2 ∙ s.1)
+    (λ l. ap (λ o. is_tile o t) (tile_past ss j l))
+    (cases_lt j (length ss))
+first_holds ss t (Some i) h = let s = slot_at ss (λ s. is_tile s.tile t ≡ true) i h.0 h.1 in (h.0, ap (λ o. is_tile o t) s.2 ∙ s.1)

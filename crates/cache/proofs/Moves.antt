@@ -7,7 +7,8 @@ use Rattle.raster.proofs.Tiles.{one_tile}
 use Rattle.surface.specs.Picture.{Picture, On}
 use Rattle.cache.specs.declared.slot.Slot.{Slot}
 use Rattle.cache.specs.Slots.{ink_at_lem, is_tile, tile_at, Apart, held}
-use Rattle.cache.specs.Cached.{cached, held_for, Given, slot_inks, run_inks}
+use Rattle.cache.specs.Cached.{cached, held_for, slot_inks, run_inks}
+use Rattle.handing.specs.Given.{Given}
 use Rattle.cache.proofs.Giving.{run_on}
 use Rattle.cache.proofs.Held.{held_none, held_only, held_beside, held_read, tile_read, apart_only}
 

@@ -1,20 +1,29 @@
--- The places of a slot, as it is made and written. Assumes nothing.
-use Rattle.std.proofs.Common.{◌≡◌, ℕ, ◌+◌, ◌<◌, ◌≤◌, true, false, cond, ◌&&◌, ltb, leb, List, length, get_or, set, None, Option, sym, refl, ap, ◌∙◌, ⊎_elim, arith, length-set, get_or-set_other, get_or-set_same}
-use Rattle.std.proofs.lemmas.Bool.{cases_eq, cond-true, cond-false}
+-- The places of a slot, when a run of them is written. Assumes nothing.
+use Rattle.std.proofs.Common.{◌≡◌, ℕ, ◌+◌, ◌<◌, ◌≤◌, true, false, cond, ◌&&◌, ltb, leb, List, length, get_or, replicate, None, Option, sym, ap, ◌∙◌, ⊎_elim, arith, rules}
+use borrow.Rule.Slice.PartMut.{put_mid}
+use Rattle.std.proofs.lemmas.List.{length-replicate, places}
+use Rattle.std.proofs.lemmas.Bool.{cases_lt, cond-true, cond-false}
 use Rattle.std.proofs.lemmas.Bool.Decides.{nat_tests}
 
--- places from k up to i were given o
-abbrev pub PutTo : {A : Type 0} → ℕ → ℕ → Option A → List (Option A) → List (Option A) → Type 0
-PutTo k i o was is = (length is ≡ length was) × ((j : ℕ) → get_or is j None ≡ cond (leb k j && ltb j i) o (get_or was j None))
+-- the n places from k on have o, and the others what they had
+pub run_put : {A : Type 0} (k n m d : ℕ) (o : Option A) (xs ys : List (Option A)) → d ≡ n → k + n ≤ length xs → length ys ≡ n → ys ≡ replicate m o → (j : ℕ) → get_or (put_mid k d xs ys) j None ≡ cond (leb k j && ltb j (k + n)) o (get_or xs j None)
+run_put k n m d o xs ys same room len e j = ⊎_elim before (λ from. ⊎_elim (within from) behind (cases_lt j (k + n))) (cases_lt j k)
+  where
+    before : j < k → get_or (put_mid k d xs ys) j None ≡ cond (leb k j && ltb j (k + n)) o (get_or xs j None)
+    before l =
+        let q : (leb k j && ltb j (k + n)) ≡ false = grind (arith, nat_tests) in
+        let r : get_or (put_mid k d xs ys) j None ≡ get_or xs j None = search (rules, places) in
+        r ∙ sym (cond-false _ _ _ q)
 
-pub put_none : {A : Type 0} (k : ℕ) (o : Option A) (xs : List (Option A)) → PutTo k k o xs xs
-put_none k o xs = (refl, λ j. let e : (leb k j && ltb j k) ≡ false = grind (arith, nat_tests) in sym (cond-false _ _ _ e))
+    within : k ≤ j → j < k + n → get_or (put_mid k d xs ys) j None ≡ cond (leb k j && ltb j (k + n)) o (get_or xs j None)
+    within from l =
+        let q : (leb k j && ltb j (k + n)) ≡ true = grind (arith, nat_tests) in
+        let many : m ≡ n = omega (arith, length-replicate m o, ap length e, len) in
+        let r : get_or (put_mid k d xs (replicate m o)) j None ≡ o = search (rules, places) in
+        ap (λ zs. get_or (put_mid k d xs zs) j None) e ∙ r ∙ sym (cond-true _ _ _ q)
 
-pub put_more : {A : Type 0} (k i : ℕ) (o : Option A) (xs ys : List (Option A)) → k ≤ i → i < length ys → PutTo k i o xs ys → PutTo k (i + 1) o xs (set ys i o)
-put_more k i o xs ys h l p = (
-  length-set ys i o ∙ p.0,
-  λ j. ⊎_elim
-      (λ e. let q : (leb k j && ltb j (i + 1)) ≡ true = grind (arith, nat_tests) in ap (λ m. get_or (set ys i o) m None) e ∙ get_or-set_same ys i o None l ∙ sym (cond-true _ _ _ q))
-      (λ e. let q : (leb k j && ltb j (i + 1)) ≡ (leb k j && ltb j i) = grind (arith, nat_tests) in get_or-set_other ys i j o None e ∙ p.1 j ∙ sym (ap (λ b. cond b o (get_or xs j None)) q))
-      (cases_eq j i),
-)
+    behind : k + n ≤ j → get_or (put_mid k d xs ys) j None ≡ cond (leb k j && ltb j (k + n)) o (get_or xs j None)
+    behind l =
+        let q : (leb k j && ltb j (k + n)) ≡ false = grind (arith, nat_tests) in
+        let r : get_or (put_mid k d xs ys) j None ≡ get_or xs j None = search (rules, places) in
+        r ∙ sym (cond-false _ _ _ q)

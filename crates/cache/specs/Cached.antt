@@ -1,10 +1,12 @@
 -- The picture of a cache, and what its calls do to a picture. Assumes nothing.
-use Rattle.std.specs.Prelude.{◌≡◌, ℕ, ◌+◌, ◌/◌, false, cond, ◌&&◌, ◌||◌, List, is_some, Some, None, Option, ◌==◌, nat_le, nat_lt}
+use Rattle.std.specs.Prelude.{◌≡◌, ℕ, ◌+◌, cond, ◌&&◌, ◌||◌, List, is_some, Some, None, Option, ◌==◌, nat_le, nat_lt}
 use Rattle.std.specs.Option.{unwrap_or}
 use Rattle.raster.specs.Sizes.{tile_of, place}
-use Rattle.surface.specs.Picture.{Picture, On, SameSides}
+use Rattle.surface.specs.Picture.{Picture, SameSides}
 use Rattle.cache.specs.declared.slot.Slot.{Slot}
+use Rattle.cache.specs.declared.store.Cache.{Cache}
 use Rattle.cache.specs.Slots.{ink_at_lem, is_tile, held}
+use Rattle.handing.specs.Given.{Given}
 
 -- the ink that the slots have for pixel (x, y) of a surface of that width
 abbrev pub held_for : List Slot → ℕ → ℕ → ℕ → Option ℕ
@@ -21,19 +23,17 @@ cached slots p = record {
   waits = λ x y. is_some (held_for slots p.wide x y) || p.waits x y;
 }
 
--- each pixel took the ink that it was given; one that was given none kept its own, and did not begin to wait
-pub record Given (ink : ℕ → ℕ → Option ℕ) (p q : Picture) : Type 0 where
-  pub sides : SameSides p q
-  pub taken : (u v : ℕ) → On p u v → q.taken u v ≡ unwrap_or (ink u v) (p.taken u v)
-  pub calm : (u v : ℕ) → On p u v → ink u v ≡ None → p.waits u v ≡ false → q.waits u v ≡ false
+-- the picture of a cache over a surface of that view
+abbrev pub picture : {S : Type 0} → (S → Picture) → Cache S → Picture
+picture view c = cached c.slots (view c.below)
+
+-- nothing was given: each pixel kept its taken ink, and none began to wait
+abbrev pub Quiet : Picture → Picture → Type 0
+Quiet p q = Given (λ u v. None) p q
 
 -- what a slot has for the pixels of its tile
 abbrev pub slot_inks : Slot → ℕ → ℕ → ℕ → Option ℕ
 slot_inks s wide u v = cond (is_tile s.tile (tile_of wide u v)) (ink_at_lem s (place u v)) None
-
--- what a slot has for the pixels of the tile in column tx and row ty of the tiles, from place k up to place n
-abbrev pub part_inks : Slot → ℕ → ℕ → ℕ → ℕ → ℕ → ℕ → Option ℕ
-part_inks s tx ty k n u v = cond ((u / 16 == tx && v / 16 == ty) && (nat_le k (place u v) && nat_lt (place u v) n)) (ink_at_lem s (place u v)) None
 
 -- what a run gives
 abbrev pub run_inks : ℕ → ℕ → ℕ → ℕ → ℕ → ℕ → Option ℕ

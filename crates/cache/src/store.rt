@@ -10,6 +10,7 @@ pub mod panel;
 #[derive(Drop)]
 pub struct Cache<S> {
     below: S,
+    // A ring in fixed memory, and no queue of the library's: that takes heap, and a cache has none.
     slots: [Slot; 4],
     next: usize,
     ghost four: { length slots ≡ 4 },

@@ -2,27 +2,21 @@ use raster::refusal::Refusal;
 use raster::shape::Bounds;
 use surface::surface::Surface;
 
-/// A surface that notes how many runs it was handed, and the box around all of their pixels.
+/// A surface that notes how many runs it was handed, and the box around all of their pixels, if there was one.
 #[derive(Drop)]
 pub struct Noting<S> {
     below: S,
     runs: u32,
-    around: Bounds,
+    around: Option<Bounds>,
 }
 
 impl<S: Surface> Noting<S> {
     /// With no run noted.
     pub fn new(below: S) -> Noting<S> {
-        let around = Bounds {
-            left: 65535,
-            top: 65535,
-            right: 0,
-            bottom: 0,
-        };
         Noting {
             below,
             runs: 0,
-            around,
+            around: None,
         }
     }
 
@@ -31,19 +25,29 @@ impl<S: Surface> Noting<S> {
         self.runs
     }
 
-    /// The box around their pixels.
-    pub fn around(&self) -> Bounds {
+    /// The box around their pixels, if there was a run.
+    pub fn around(&self) -> Option<Bounds> {
         self.around
     }
 }
 
-/// The box around a box and a run.
-fn joined(b: Bounds, x: u16, y: u16, n: u16) -> Bounds {
+/// The box of a run.
+fn run_box(x: u16, y: u16, n: u16) -> Bounds {
     Bounds {
-        left: b.left.min(x as u32),
-        top: b.top.min(y as u32),
-        right: b.right.max(x as u32 + n as u32),
-        bottom: b.bottom.max(y as u32 + 1),
+        left: x as u32,
+        top: y as u32,
+        right: x as u32 + n as u32,
+        bottom: y as u32 + 1,
+    }
+}
+
+/// The box around two boxes.
+fn joined(a: Bounds, b: Bounds) -> Bounds {
+    Bounds {
+        left: a.left.min(b.left),
+        top: a.top.min(b.top),
+        right: a.right.max(b.right),
+        bottom: a.bottom.max(b.bottom),
     }
 }
 
@@ -53,8 +57,7 @@ impl<S: Surface> Surface for Noting<S> {
     ghost lawful = { λ s. S.Surface.lawful s.below };
 
     fn size(&self) -> (u16, u16) {
-        let sides = self.below.size();
-        (sides.0, sides.1)
+        self.below.size()
     }
 
     fn read(&self, x: u16, y: u16) -> Result<u8, Refusal> {
@@ -63,7 +66,8 @@ impl<S: Surface> Surface for Noting<S> {
 
     fn run(&mut self, x: u16, y: u16, n: u16, ink: u16) -> Result<(), Refusal> {
         self.runs = self.runs.saturating_add(1);
-        self.around = joined(self.around, x, y, n);
+        let run = run_box(x, y, n);
+        self.around = Some(self.around.map_or(run, |around| joined(around, run)));
         self.below.run(x, y, n, ink)
     }
 

@@ -2,7 +2,7 @@ ghost use Rattle.std.specs.Prelude.{◌≤◌};
 
 use painting::scene::{Placed, Span};
 use raster::ink::Ink;
-use raster::shape::{Rect, Shape};
+use raster::shape::{Bounds, Rect, Shape};
 
 mod marks;
 mod ruling;
@@ -28,4 +28,14 @@ fn span(shape: u16, from: u16, to: u16, ink: u8) -> Option<Span>
         to,
         ink: Ink { value: ink },
     })
+}
+
+/// The pixels from left and top on that lie before right and bottom.
+fn bounds(left: u32, top: u32, right: u32, bottom: u32) -> Bounds {
+    Bounds {
+        left,
+        top,
+        right,
+        bottom,
+    }
 }

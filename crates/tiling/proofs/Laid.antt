@@ -1,13 +1,15 @@
 -- The inks of a tile by the shapes that are listed. Assumes nothing.
-use Rattle.std.proofs.Common.{◌≡◌, ℕ, ◌+◌, ◌*◌, ◌/◌, ◌%◌, ◌<◌, Bool, cond, ◌&&◌, ltb, List, get_or, Some, None, Option, unwrap_or, sym, refl, ap, ◌∙◌, ap₂, arith}
+use Rattle.std.proofs.Common.{◌≡◌, ℕ, ◌+◌, ◌*◌, ◌/◌, ◌%◌, ◌<◌, Bool, true, false, cond, ◌&&◌, ◌⊎◌, ltb, List, get_or, Some, None, Option, unwrap_or, sym, refl, ap, ◌∙◌, ap₂, ⊎_elim, arith}
 use Rattle.std.specs.Option.{option_map}
-use Rattle.raster.specs.Sizes.{tile_of, place}
+use Rattle.raster.specs.Shapes.{covers}
+use Rattle.raster.specs.Sizes.{across, tile_of, place}
 use Rattle.raster.proofs.Tiles.{tile_parts}
+use Rattle.handing.specs.declared.spot.Spot.{Spot}
 use Rattle.painting.specs.declared.scene.Placed.{Placed}
 use Rattle.painting.specs.Drawing.{Drawing, Item, ruling, shape_ink, painting}
 use Rattle.painting.specs.Scenes.{item, at_number}
 use Rattle.painting.proofs.Topmost.{topmost_none, topmost_more, topmost_same}
-use Rattle.book.specs.Tiles.{across, meets}
+use Rattle.book.specs.Tiles.{meets}
 use Rattle.book.specs.Past.{listed}
 use Rattle.book.proofs.Found.{found_ink, painting_found}
 use Rattle.tiling.specs.Places.{column_of, row_of}
@@ -17,12 +19,13 @@ use Rattle.tiling.proofs.Ruled.{listed_here, picked}
 pub laid_none : (font : List ℕ) (shapes : List (Option Placed)) (inks found : List ℕ) (x y : ℕ) → 0 ≡ laid_below font shapes inks found 0 x y
 laid_none font shapes inks found x y = sym (topmost_none _ 0)
 
-pub laid_more : (font : List ℕ) (shapes : List (Option Placed)) (inks found : List ℕ) (n ink width t column row k : ℕ) (b : Bool) (placed : Option Placed) (before after : ℕ)
-    → column ≡ t % across width → row ≡ t / across width → n < 256 → b ≡ (ltb n 256 && listed found n) → placed ≡ cond b (at_number shapes n) None → ink ≡ get_or inks n 0
-    → after ≡ unwrap_or (cover_ink font (option_map item placed) ink (16 * column + k % 16) (16 * row + k / 16)) before
+-- one number more: what was picked there covers the pixel or does not, or nothing was picked
+pub laid_more : (font : List ℕ) (shapes : List (Option Placed)) (inks found : List ℕ) (n width t k : ℕ) (spot : Spot) (b : Bool) (placed : Option Placed) (before after : ℕ)
+    → spot.column ≡ t % across width → spot.row ≡ t / across width → n < 256 → b ≡ (ltb n 256 && listed found n) → placed ≡ cond b (at_number shapes n) None
+    → ((placed ≡ None) × (after ≡ before)) ⊎ ((r : Placed) × (placed ≡ Some r) × (after ≡ cond (covers font r.shape (16 * spot.column + k % 16) (16 * spot.row + k / 16)) (get_or inks n 0) before))
     → before ≡ laid_below font shapes inks found n (column_of width t k) (row_of width t k) → after ≡ laid_below font shapes inks found (n + 1) (column_of width t k) (row_of width t k)
-laid_more font shapes inks found n ink width t column row k b placed before after cx cy h e p i q r =
-    q ∙ ap₂ (λ v w. unwrap_or (cover_ink font (option_map item placed) ink (16 * v + k % 16) (16 * w + k / 16)) before) cx cy ∙ ap₂ unwrap_or here r ∙ sym (topmost_more f 0 n)
+laid_more font shapes inks found n width t k spot b placed before after c d h e p q r =
+    ⊎_elim none some q ∙ ap₂ unwrap_or here r ∙ sym (topmost_more f 0 n)
   where
     x : ℕ
     x = column_of width t k
@@ -33,10 +36,22 @@ laid_more font shapes inks found n ink width t column row k b placed before afte
     f : ℕ → Option ℕ
     f = if_listed found (λ m. cover_ink font (option_map item (at_number shapes m)) (get_or inks m 0) x y)
 
-    here : cover_ink font (option_map item placed) ink x y ≡ f n
-    here = ap₂ (λ o v. cover_ink font (option_map item o) v x y) p i
+    here : cover_ink font (option_map item placed) (get_or inks n 0) x y ≡ f n
+    here = ap (λ o. cover_ink font (option_map item o) (get_or inks n 0) x y) p
         ∙ picked item (λ o. cover_ink font o (get_or inks n 0) x y) b (at_number shapes n) refl
         ∙ ap (λ t. cond t (cover_ink font (option_map item (at_number shapes n)) (get_or inks n 0) x y) None) (listed_here found n b h e)
+
+    covered : (u : Bool) (ink : ℕ) → cond u ink before ≡ unwrap_or (cond u (Some ink) None) before
+    covered true ink = refl
+    covered false ink = refl
+
+    none : (placed ≡ None) × (after ≡ before) → after ≡ unwrap_or (cover_ink font (option_map item placed) (get_or inks n 0) x y) before
+    none z = z.1 ∙ ap (λ o. unwrap_or (cover_ink font (option_map item o) (get_or inks n 0) x y) before) (sym z.0)
+
+    some : (r : Placed) × (placed ≡ Some r) × (after ≡ cond (covers font r.shape (16 * spot.column + k % 16) (16 * spot.row + k / 16)) (get_or inks n 0) before) → after ≡ unwrap_or (cover_ink font (option_map item placed) (get_or inks n 0) x y) before
+    some z = z.2 ∙ ap₂ (λ v w. cond (covers font z.0.shape (16 * v + k % 16) (16 * w + k / 16)) (get_or inks n 0) before) c d
+        ∙ covered (covers font z.0.shape x y) (get_or inks n 0)
+        ∙ ap (λ o. unwrap_or (cover_ink font (option_map item o) (get_or inks n 0) x y) before) (sym z.1)
 
 -- the ruling ink of a shape that covers
 cover_shape : (d : Drawing) (n x y : ℕ) (o : Option Item) → cover_ink d.font o (shape_or_none o (ruling d n)) x y ≡ shape_ink d x y o n

@@ -1,10 +1,10 @@
 -- Marking numbers one after the other, and tiles row by row. Assumes nothing.
 use Rattle.std.proofs.Common.{◌≡◌, ℕ, zero, suc, ◌+◌, ◌*◌, ◌/◌, ◌%◌, ◌<◌, ◌≤◌, min, max, Bool, true, false, ◌&&◌, ◌||◌, eqb, ltb, leb, List, [], ◌∷◌, length, get_or, take, replicate, sym, refl, ap, ◌∙◌, ap₂, add-one, arith}
-use Rattle.std.proofs.lemmas.Bool.{and_right, le-ltb}
 use Rattle.std.proofs.lemmas.Bool.Decides.{nat_tests}
 use Rattle.raster.specs.declared.shape.Bounds.{Bounds}
 use Rattle.raster.proofs.Tiles.{row_column}
-use Rattle.book.specs.Tiles.{across, tile_box, share}
+use Rattle.raster.specs.Sizes.{across}
+use Rattle.book.specs.Tiles.{tile_box, share}
 use Rattle.book.specs.Past.{listed}
 
 -- what is the same everywhere
@@ -34,11 +34,7 @@ pub small_more : (small was next : Bool) → ((small && was) || (small && next))
 small_more true was next = refl
 small_more false was next = refl
 
--- marked besides, in an area that begins empty
-pub marked_none : (was small area : Bool) → area ≡ false → was ≡ (was || (small && area))
-marked_none true small area e = refl
-marked_none false small area e = sym (and_right small area e)
-
+-- marked besides, in an area
 pub marked_like : (was small area other : Bool) → area ≡ other → (was || (small && area)) ≡ (was || (small && other))
 marked_like was small area other e = ap (λ b. was || (small && b)) e
 
@@ -50,9 +46,6 @@ marked_more was small area next both before after e p q = p ∙ ap (λ b. b || (
     go false = small_more small area next ∙ sym (ap (λ v. small && v) e)
 
 -- one tile more of a row of tiles
-pub columns_none : (here : Bool) (from m : ℕ) → (here && (leb from m && ltb m from)) ≡ false
-columns_none here from m = and_right here _ (grind (arith, nat_tests))
-
 pub columns_more : (t across row column from : ℕ) → column < across → from ≤ column
     → (eqb row (t / across) && (leb from (t % across) && ltb (t % across) (column + 1))) ≡ ((eqb row (t / across) && (leb from (t % across) && ltb (t % across) column)) || eqb t (row * across + column))
 columns_more t across row column from h k = go (t / across) (t % across) ∙ ap (λ b. (eqb row (t / across) && (leb from (t % across) && ltb (t % across) column)) || b) (row_column t across row column h)
@@ -72,13 +65,3 @@ side_tiles m edge low high end e h = grind (arith, nat_tests)
 pub tiles_meet : (width height t right bottom : ℕ) (b : Bounds) → right ≡ min b.right width → bottom ≡ min b.bottom height → b.left < right → b.top < bottom
     → ((leb (b.left / 16) (t % across width) && ltb (t % across width) ((right + 15) / 16)) && (leb (b.top / 16) (t / across width) && ltb (t / across width) ((bottom + 15) / 16))) ≡ share (tile_box width height t) b
 tiles_meet width height t right bottom b e f h k = ap₂ (λ x y. x && y) (side_tiles (t % across width) width b.left b.right right e h) (side_tiles (t / across width) height b.top b.bottom bottom f k)
-
--- no tile meets a box that has no pixel of the sheet
-side_apart : (m edge low high end : ℕ) → end ≡ min high edge → end ≤ low → ltb (max (16 * m) low) (min (min (16 * m + 16) edge) high) ≡ false
-side_apart m edge low high end e h = le-ltb _ _ (omega arith)
-
-pub none_meet_across : (width height t right : ℕ) (b : Bounds) → right ≡ min b.right width → right ≤ b.left → share (tile_box width height t) b ≡ false
-none_meet_across width height t right b e h = ap (λ x. x && ltb (max (16 * (t / across width)) b.top) (min (min (16 * (t / across width) + 16) height) b.bottom)) (side_apart (t % across width) width b.left b.right right e h)
-
-pub none_meet_down : (width height t bottom : ℕ) (b : Bounds) → bottom ≡ min b.bottom height → bottom ≤ b.top → share (tile_box width height t) b ≡ false
-none_meet_down width height t bottom b e h = and_right _ _ (side_apart (t / across width) height b.top b.bottom bottom e h)

@@ -1,5 +1,5 @@
 -- The ruling inks by the spans that are listed. Assumes nothing.
-use Rattle.std.proofs.Common.{◌≡◌, ℕ, ◌+◌, ◌<◌, Bool, true, false, cond, ◌&&◌, ltb, List, is_some, Some, None, Option, unwrap_or, sym, refl, ap, ◌∙◌, ap₂}
+use Rattle.std.proofs.Common.{◌≡◌, ℕ, ◌+◌, ◌<◌, Bool, true, false, cond, ◌&&◌, ◌⊎◌, ltb, List, is_some, Some, None, Option, unwrap_or, sym, refl, ap, ◌∙◌, ap₂, ⊎_elim}
 use Rattle.std.proofs.lemmas.Bool.{lt-ltb}
 use Rattle.std.specs.Option.{option_map}
 use Rattle.painting.specs.declared.scene.Placed.{Placed}
@@ -28,11 +28,12 @@ shape_same (Some p) f g h = h p.ink
 pub ruled_none : (shapes : List (Option Placed)) (spans : List (Option Span)) (frame : ℕ) (found : List ℕ) (n : ℕ) → shape_or_none (option_map item (at_number shapes n)) (λ own. own) ≡ ruled_below shapes spans frame found 0 n
 ruled_none shapes spans frame found n = shape_same (option_map item (at_number shapes n)) _ _ (λ own. sym (topmost_none _ own))
 
+-- one number more: what was picked there rules the shape, or nothing was picked
 pub ruled_more : (shapes : List (Option Placed)) (spans : List (Option Span)) (frame : ℕ) (found : List ℕ) (s n : ℕ) (b : Bool) (span : Option Span) (before after : ℕ)
     → s < 256 → b ≡ (ltb s 256 && listed found s) → span ≡ cond b (at_number spans s) None
-    → after ≡ cond (is_some (at_number shapes n)) (unwrap_or (span_ink (option_map turn span) n frame) before) before
+    → ((span ≡ None) × (after ≡ before)) ⊎ ((r : Span) × (span ≡ Some r) × (after ≡ cond (is_some (at_number shapes n)) (unwrap_or (span_ink (Some (turn r)) n frame) before) before))
     → before ≡ ruled_below shapes spans frame found s n → after ≡ ruled_below shapes spans frame found (s + 1) n
-ruled_more shapes spans frame found s n b span before after h e p q r = go (at_number shapes n) q r
+ruled_more shapes spans frame found s n b span before after h e p q r = go (at_number shapes n) (⊎_elim (none (at_number shapes n)) some q) r
   where
     f : ℕ → Option ℕ
     f = if_listed found (λ m. span_ink (option_map turn (at_number spans m)) n frame)
@@ -41,6 +42,13 @@ ruled_more shapes spans frame found s n b span before after h e p q r = go (at_n
     here = ap (λ o. span_ink (option_map turn o) n frame) p
         ∙ picked turn (λ o. span_ink o n frame) b (at_number spans s) refl
         ∙ ap (λ t. cond t (span_ink (option_map turn (at_number spans s)) n frame) None) (listed_here found s b h e)
+
+    none : (o : Option Placed) → (span ≡ None) × (after ≡ before) → after ≡ cond (is_some o) (unwrap_or (span_ink (option_map turn span) n frame) before) before
+    none None x = x.1
+    none (Some placed) x = x.1 ∙ ap (λ v. unwrap_or (span_ink (option_map turn v) n frame) before) (sym x.0)
+
+    some : (r : Span) × (span ≡ Some r) × (after ≡ cond (is_some (at_number shapes n)) (unwrap_or (span_ink (Some (turn r)) n frame) before) before) → after ≡ cond (is_some (at_number shapes n)) (unwrap_or (span_ink (option_map turn span) n frame) before) before
+    some x = x.2 ∙ ap (λ v. cond (is_some (at_number shapes n)) (unwrap_or (span_ink (option_map turn v) n frame) before) before) (sym x.1)
 
     go : (o : Option Placed) → after ≡ cond (is_some o) (unwrap_or (span_ink (option_map turn span) n frame) before) before → before ≡ shape_or_none (option_map item o) (λ own. topmost f own s)
         → after ≡ shape_or_none (option_map item o) (λ own. topmost f own (s + 1))

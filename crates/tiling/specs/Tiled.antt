@@ -1,5 +1,5 @@
 -- What handing a tile down does to a picture. Assumes nothing.
-use Rattle.std.specs.Prelude.{◌≡◌, ℕ, ◌/◌, ◌<◌, ◌≤◌, false, List, ◌≢◌, slice_index}
+use Rattle.std.specs.Prelude.{◌≡◌, ℕ, false, List, ◌≢◌, slice_index}
 use Rattle.raster.specs.Sizes.{tile_of, place}
 use Rattle.surface.specs.Picture.{Picture, On, SameSides}
 
@@ -9,17 +9,3 @@ pub record Tiled (t : ℕ) (inks : List ℕ) (p q : Picture) : Type 0 where
   pub on : (u v : ℕ) → On p u v → tile_of p.wide u v ≡ t → q.taken u v ≡ slice_index inks (place u v)
   pub off : (u v : ℕ) → On p u v → (tile_of p.wide u v ≢ t) → q.taken u v ≡ p.taken u v
   pub calm : (u v : ℕ) → On p u v → (tile_of p.wide u v ≢ t) → p.waits u v ≡ false → q.waits u v ≡ false
-
--- (u, v) lies in the tile of that column and row, at one of the places from k on that lie before n
-pub record AtPlaces (column row k n u v : ℕ) : Type 0 where
-  pub across : u / 16 ≡ column
-  pub down : v / 16 ≡ row
-  pub from : k ≤ place u v
-  pub to : place u v < n
-
--- the pixels at these places took their inks; every other kept its taken ink, and did not begin to wait
-pub record Filled (column row k n : ℕ) (inks : List ℕ) (p q : Picture) : Type 0 where
-  pub sides : SameSides p q
-  pub on : (u v : ℕ) → On p u v → AtPlaces column row k n u v → q.taken u v ≡ slice_index inks (place u v)
-  pub off : (u v : ℕ) → On p u v → (AtPlaces column row k n u v → ⊥) → q.taken u v ≡ p.taken u v
-  pub calm : (u v : ℕ) → On p u v → (AtPlaces column row k n u v → ⊥) → p.waits u v ≡ false → q.waits u v ≡ false

@@ -1,9 +1,8 @@
 ghost use Rattle.surface.specs.Calls.{Settled};
-ghost use Rattle.cache.specs.Cached.{cached, FreshCache};
+ghost use Rattle.cache.specs.Cached.{picture, FreshCache};
 ghost use Rattle.cache.specs.Laws.{cached_lawful};
 
 use super::Cache;
-use super::moves::{held_ink, tile_in};
 use crate::slot::Slot;
 use raster::ink::Ink;
 use raster::refusal::Refusal;
@@ -12,7 +11,7 @@ use surface::surface::Surface;
 impl<S: Surface> Cache<S> {
     /// A cache over a surface, with all slots empty: its picture is that of the surface below.
     pub fn new(below: S) -> Cache<S>
-        ensures { FreshCache (S.Surface.view below) (S.Surface.view result.below) (cached result.slots (S.Surface.view result.below)) }
+        ensures { FreshCache (S.Surface.view below) (S.Surface.view result.below) (picture S.Surface.view result) }
     {
         Cache {
             below,
@@ -23,7 +22,7 @@ impl<S: Surface> Cache<S> {
 
     /// The surface below, once all slots are emptied and it is settled.
     pub fn into_below(mut self) -> S
-        ensures { Settled (cached self.slots (S.Surface.view self.below)) (S.Surface.view result) }
+        ensures { Settled (picture S.Surface.view self) (S.Surface.view result) }
     {
         self.empty_all();
         let Cache {
@@ -37,30 +36,26 @@ impl<S: Surface> Cache<S> {
 }
 
 impl<S: Surface> Surface for Cache<S> {
-    ghost view = { λ c. cached c.slots (S.Surface.view c.below) };
+    ghost view = { picture S.Surface.view };
 
     ghost lawful = { λ c. cached_lawful c.slots (S.Surface.view c.below) (S.Surface.lawful c.below) };
 
     fn size(&self) -> (u16, u16) {
-        let sides = self.below.size();
-        (sides.0, sides.1)
+        self.below.size()
     }
 
     fn read(&self, x: u16, y: u16) -> Result<u8, Refusal> {
-        let (width, height) = self.below.size();
-        if x >= width || y >= height {
+        if !self.has(x, y) {
             return Err(Refusal::Surface);
         }
-        let place = 16 * (y as usize % 16) + x as usize % 16;
-        match held_ink(&self.slots, tile_in(width, x, y), place) {
+        match self.held_ink(x, y) {
             Some(ink) => Ok(ink.value),
             None => self.below.read(x, y),
         }
     }
 
     fn run(&mut self, x: u16, y: u16, n: u16, ink: u16) -> Result<(), Refusal> {
-        let (width, height) = self.below.size();
-        if n == 0 || ink > 15 || y >= height || x as u32 + n as u32 > width as u32 {
+        if !self.accepts(x, y, n, ink) {
             return Err(Refusal::Surface);
         }
         self.put_run(x, y, n, Ink { value: ink as u8 });

@@ -1,4 +1,4 @@
-ghost use Rattle.std.specs.Prelude.{◌≡◌, length};
+ghost use Rattle.std.specs.Prelude.{◌≡◌};
 
 use std::process::Abort;
 use std::test::Fail;
@@ -8,6 +8,9 @@ use surface::surface::Surface;
 pub(super) const WIDE: u16 = 40;
 
 pub(super) const HIGH: u16 = 35;
+
+/// How many pixels they have.
+pub(super) const PIXELS: usize = WIDE as usize * HIGH as usize;
 
 /// What a call of `run` is given.
 #[derive(Clone, Copy)]
@@ -111,89 +114,95 @@ impl Dice {
     }
 }
 
-/// Gives the run to the plain pixels, and answers whether they accept it.
-fn give(plain: &mut [u8], run: Run) -> bool
-    requires { length plain.old ≡ 1400 }
-{
-    if run.n == 0 || run.ink > 15 || run.y >= HIGH || run.x as u32 + run.n as u32 > WIDE as u32 {
-        return false;
-    }
-    let start = WIDE as usize * run.y as usize + run.x as usize;
-    for at in start..start + run.n as usize {
-        plain[at] = run.ink as u8;
-    }
-    true
+/// The inks that the pixels should have taken, row by row.
+#[derive(Clone, Copy)]
+pub(super) struct Plain {
+    pub(super) inks: [u8; PIXELS],
 }
 
-/// Whether the surface answers the run as the plain pixels did, a refused one with the number 30.
+impl Plain {
+    /// Paper everywhere.
+    fn paper() -> Plain {
+        Plain { inks: [0; PIXELS] }
+    }
+
+    /// Gives the run to the pixels, and answers whether they accept it.
+    // The rule stands here once more, since what `accepts` of a surface answers is tested against it.
+    fn give(&mut self, run: Run) -> bool {
+        if run.n == 0
+            || run.ink > 15
+            || run.y >= HIGH
+            || run.x as u32 + run.n as u32 > WIDE as u32
+        {
+            return false;
+        }
+        let start = WIDE as usize * run.y as usize + run.x as usize;
+        self.inks[start..start + run.n as usize].fill(run.ink as u8);
+        true
+    }
+
+    /// Whether every pixel of the surface took its plain ink.
+    pub(super) fn agrees<S: Surface>(&self, rt: &impl Abort, surface: &S) -> Result<(), Fail> {
+        for (i, ink) in self.inks.iter().enumerate() {
+            let i = i as u16;
+            assert_eq!(rt; surface.read(i % WIDE, i / WIDE)?, *ink);
+        }
+        Ok(())
+    }
+
+    /// Gives the run to the pixels and to the surface, which answers as they do, and refuses with the number 30.
+    fn play_run<S: Surface>(
+        &mut self,
+        rt: &impl Abort,
+        surface: &mut S,
+        run: Run,
+    ) -> Result<(), Fail> {
+        let accepted = self.give(run);
+        answers(rt, surface, run, accepted)
+    }
+}
+
+/// Whether the surface accepts the run or not, as it should, and refuses with the number 30.
 fn answers<S: Surface>(
     rt: &impl Abort,
     surface: &mut S,
     run: Run,
     accepted: bool,
 ) -> Result<(), Fail> {
-    match surface.run(run.x, run.y, run.n, run.ink) {
-        Ok(()) => {
-            assert!(rt; accepted);
-            Ok(())
-        },
-        Err(e) => {
-            assert!(rt; !accepted && e.number() == 30);
-            Ok(())
-        },
-    }
-}
-
-/// Whether every pixel of the surface took the plain ink.
-pub(super) fn agrees<S: Surface>(rt: &impl Abort, surface: &S, plain: &[u8]) -> Result<(), Fail>
-    requires { length plain.now ≡ 1400 }
-{
-    for i in 0..1400u16 {
-        assert_eq!(rt; surface.read(i % WIDE, i / WIDE)?, plain[i as usize]);
-    }
+    let answer = surface.run(run.x, run.y, run.n, run.ink);
+    assert_eq!(rt;
+        answer.map_err(u8::from),
+        if accepted { Ok(()) } else { Err(30) }
+    );
     Ok(())
 }
 
 /// Gives each pixel an ink of its own, one after the other: in every column each of the 16 inks comes, and so at each place of
 /// a byte.
-fn speckle<S: Surface>(rt: &impl Abort, surface: &mut S, plain: &mut [u8]) -> Result<(), Fail>
-    requires { length plain.old ≡ 1400 }
-{
-    for i in 0..1400u16 {
-        let (x, y) = (i % WIDE, i / WIDE);
-        let run = Run {
-            x,
-            y,
-            n: 1,
-            ink: (x + y) % 16,
-        };
-        let accepted = give(plain, run);
-        answers(rt, surface, run, accepted)?;
+fn speckle<S: Surface>(rt: &impl Abort, surface: &mut S, plain: &mut Plain) -> Result<(), Fail> {
+    for y in 0..HIGH {
+        for x in 0..WIDE {
+            let ink = (x + y) % 16;
+            plain.play_run(rt, surface, Run { x, y, n: 1, ink })?;
+        }
     }
     Ok(())
 }
 
-/// Gives each pixel an ink of its own and then so many runs to both, which agree after each; every 16th is followed by a settle.
-pub(super) fn play<S: Surface>(
-    rt: &impl Abort,
-    surface: &mut S,
-    plain: &mut [u8],
-    runs: u16,
-) -> Result<(), Fail>
-    requires { length plain.old ≡ 1400 }
-{
-    speckle(rt, surface, plain)?;
+/// Gives each pixel an ink of its own and then so many runs to the surface and to plain pixels, which agree after each; every
+/// 16th is followed by a settle. It answers the plain pixels.
+pub(super) fn play<S: Surface>(rt: &impl Abort, surface: &mut S, runs: u16) -> Result<Plain, Fail> {
+    let mut plain = Plain::paper();
+    speckle(rt, surface, &mut plain)?;
     let mut dice = Dice { state: 1 };
     for i in 0..runs {
-        let run = dice.run();
-        let accepted = give(plain, run);
-        answers(rt, surface, run, accepted)?;
-        agrees(rt, surface, plain)?;
+        plain.play_run(rt, surface, dice.run())?;
+        plain.agrees(rt, surface)?;
         if i % 16 == 15 {
             surface.settle();
         }
     }
-    Ok(())
+    Ok(plain)
 }
 
 /// Whether the surface refuses what every surface of its sides does.
@@ -206,14 +215,9 @@ pub(super) fn refuses<S: Surface>(rt: &impl Abort, surface: &mut S) -> Result<()
 
 #[test]
 fn runs_of_both_kinds(rt: HostRuntime) -> Result<(), Fail> {
-    let mut plain = vec![in rt.alloc(); 0u8; 1400]?;
+    let mut plain = Plain::paper();
     let mut dice = Dice { state: 1 };
-    let mut accepted = 0u16;
-    for _ in 0..320u16 {
-        if give(&mut plain, dice.run()) {
-            accepted = accepted.saturating_add(1);
-        }
-    }
+    let accepted = (0..320u16).filter(|_| plain.give(dice.run())).count();
     assert!(rt; accepted > 160 && accepted < 240);
     Ok(())
 }

@@ -1,6 +1,4 @@
-ghost use Rattle.std.specs.Prelude.{◌≡◌, length};
-
-use crate::waiting::{Rows, Waiting};
+use crate::waiting::{Pixel, Waiting};
 use cache::store::Cache;
 use std::process::Abort;
 use std::test::Fail;
@@ -17,36 +15,8 @@ fn paint<S: Surface + Drop>(rt: &impl Abort, below: S, ink: u8, settle: bool) ->
     Ok(())
 }
 
-/// The same over the waiting surface of these rows.
-fn paint_rows(
-    rt: &impl Abort,
-    taken: &mut [u8],
-    shown: &mut [u8],
-    ink: u8,
-    settle: bool,
-) -> Result<(), Fail>
-    requires { (length taken.old ≡ 96) × (length shown.old ≡ 96) }
-{
-    let surface = Waiting {
-        rows: Rows { taken, shown },
-    };
-    paint(rt, surface, ink, settle)
-}
-
-/// Whether the surface of these rows took the ink in its first tiles, up to pixel `end`, and everywhere shows the ink `old`.
-fn waits(
-    rt: &impl Abort,
-    taken: &mut [u8],
-    shown: &mut [u8],
-    end: u16,
-    ink: u8,
-    old: u8,
-) -> Result<(), Fail>
-    requires { (length taken.old ≡ 96) × (length shown.old ≡ 96) }
-{
-    let surface = Waiting {
-        rows: Rows { taken, shown },
-    };
+/// Whether the surface took the ink in its first tiles, up to pixel `end`, and everywhere shows the ink `old`.
+fn waits(rt: &impl Abort, surface: &Waiting, end: u16, ink: u8, old: u8) -> Result<(), Fail> {
     for x in 0..96u16 {
         assert_eq!(rt; surface.shows(x), Some(old));
         assert!(rt; (surface.read(x, 0)? == ink) == (x < end));
@@ -55,18 +25,25 @@ fn waits(
 }
 
 /// Two tiles of an unsettled row are poured, to make room for others, and wait below. A settle shows all of them.
-fn both_ways(rt: &impl Abort, taken: &mut [u8], shown: &mut [u8]) -> Result<(), Fail>
-    requires { (length taken.old ≡ 96) × (length shown.old ≡ 96) }
-{
-    paint_rows(rt, taken, shown, 5, false)?;
-    waits(rt, taken, shown, 32, 5, 3)?;
-    paint_rows(rt, taken, shown, 9, true)?;
-    waits(rt, taken, shown, 96, 9, 9)
-}
-
 #[test]
 fn waits_below(rt: HostRuntime) -> Result<(), Fail> {
-    let mut taken = vec![in rt.alloc(); 3u8; 96]?;
-    let mut shown = vec![in rt.alloc(); 3u8; 96]?;
-    both_ways(&rt, &mut taken, &mut shown)
+    let mut pixels = [Pixel { taken: 3, shown: 3 }; 96];
+    let below = Waiting {
+        pixels: &mut pixels,
+    };
+    paint(&rt, below, 5, false)?;
+    let below = Waiting {
+        pixels: &mut pixels,
+    };
+    waits(&rt, &below, 32, 5, 3)?;
+    paint(&rt, below, 9, true)?;
+    waits(
+        &rt,
+        &Waiting {
+            pixels: &mut pixels,
+        },
+        96,
+        9,
+        9,
+    )
 }

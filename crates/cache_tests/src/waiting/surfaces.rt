@@ -1,19 +1,17 @@
-ghost use Rattle.std.specs.Prelude.{◌≡◌, ◌<◌, ◌≤◌, length, Some, None, slice_index};
-ghost use Rattle.cache_tests.specs.Waiting.{pictured, pictured_lawful};
+ghost use Rattle.std.specs.Prelude.{◌≡◌, ◌<◌, ◌≤◌, length, Some, None};
+ghost use Rattle.cache_tests.specs.Waiting.{pixel, pictured, pictured_lawful};
 
 use super::Waiting;
+use super::inks::{show, take};
 use raster::refusal::Refusal;
 use surface::surface::Surface;
 
 impl Waiting<'_> {
     /// The ink that pixel x shows, if there is such a pixel.
     pub fn shows(&self, x: u16) -> Option<u8>
-        ensures { elim result [ Some ink ↦ (x < length self.now.rows.shown.now) × (ink ≡ slice_index self.now.rows.shown.now x) | None ↦ length self.now.rows.shown.now ≤ x ] }
+        ensures { elim result [ Some ink ↦ (x < length self.now.pixels.now) × (ink ≡ (pixel self.now.pixels.now x).shown) | None ↦ length self.now.pixels.now ≤ x ] }
     {
-        if x as usize >= self.rows.shown.len() {
-            return None;
-        }
-        Some(self.rows.shown[x as usize])
+        self.pixels.get(x as usize).map(|pixel| pixel.shown)
     }
 }
 
@@ -23,26 +21,26 @@ impl Surface for Waiting<'_> {
     ghost lawful = { pictured_lawful };
 
     fn size(&self) -> (u16, u16) {
-        (self.rows.taken.len() as u16, 1)
+        (self.pixels.len() as u16, 1)
     }
 
     fn read(&self, x: u16, y: u16) -> Result<u8, Refusal> {
-        if x as usize >= self.rows.taken.len() || y >= 1 {
+        if !self.has(x, y) {
             return Err(Refusal::Surface);
         }
-        Ok(self.rows.taken[x as usize])
+        Ok(self.pixels[x as usize].taken)
     }
 
     fn run(&mut self, x: u16, y: u16, n: u16, ink: u16) -> Result<(), Refusal> {
-        let end = x as usize + n as usize;
-        if n == 0 || ink > 15 || y >= 1 || end > self.rows.taken.len() {
+        if !self.accepts(x, y, n, ink) {
             return Err(Refusal::Surface);
         }
-        self.rows.take(x as usize, end, ink as u8);
+        let first = x as usize;
+        take(&mut self.pixels[first..first + n as usize], ink as u8);
         Ok(())
     }
 
     fn settle(&mut self) {
-        self.rows.show();
+        show(self.pixels);
     }
 }

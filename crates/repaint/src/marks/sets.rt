@@ -20,11 +20,7 @@ impl Marks {
     pub fn has(&self, n: u16) -> bool
         ensures { result ≡ marked self.now n }
     {
-        if n < 256 {
-            self.flags[n as usize]
-        } else {
-            false
-        }
+        self.flags.get(n as usize).copied().unwrap_or(false)
     }
 
     /// Marks the number, if it is below 256.
@@ -51,10 +47,6 @@ impl Marks {
     pub(crate) fn pick<T: Copy>(&self, table: &[Option<T>], n: u16) -> Option<T>
         ensures { result ≡ (if marked self.now n then at_number table.now n else None) }
     {
-        if self.has(n) {
-            entry_at(table, n as usize)
-        } else {
-            None
-        }
+        entry_at(table, n as usize).filter(|_| self.has(n))
     }
 }

@@ -4,6 +4,7 @@ ghost use Rattle.repaint.specs.Marked.{marked};
 
 use super::Marks;
 use raster::shape::Bounds;
+use raster::tile::columns;
 
 impl Marks {
     /// Marks the tiles from column `from` up to `to` of a row of tiles.
@@ -17,6 +18,7 @@ impl Marks {
     }
 
     /// Marks the tiles that meet the box, on a sheet with those sides.
+    // Two sides and no `Size`, as they come: a side may be 0 here, and then no tile is marked.
     pub fn mark(&mut self, width: u16, height: u16, bounds: Bounds)
         ensures { (t : ℕ) → marked self.new t ≡ (marked self.old t || (nat_lt t 256 && share (tile_box width height t) bounds)) }
     {
@@ -25,7 +27,7 @@ impl Marks {
         if bounds.left >= right || bounds.top >= bottom {
             return;
         }
-        let across = (width as u32 + 15) / 16;
+        let across = columns(width);
         for row in bounds.top / 16..(bottom + 15) / 16 {
             self.mark_row(across, row, bounds.left / 16, (right + 15) / 16);
         }

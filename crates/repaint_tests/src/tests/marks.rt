@@ -1,25 +1,9 @@
-use raster::shape::Bounds;
+use super::bounds;
 use repaint::marks::Marks;
 
-/// A box by its ends.
-fn bounds(left: u32, top: u32, right: u32, bottom: u32) -> Bounds {
-    Bounds {
-        left,
-        top,
-        right,
-        bottom,
-    }
-}
-
 /// How many numbers are marked.
-fn count(marks: &Marks) -> u16 {
-    let mut sum = 0u16;
-    for t in 0..300u16 {
-        if marks.has(t) {
-            sum = sum.saturating_add(1);
-        }
-    }
-    sum
+fn count(marks: &Marks) -> usize {
+    (0..300u16).filter(|t| marks.has(*t)).count()
 }
 
 #[test]

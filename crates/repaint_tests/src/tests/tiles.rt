@@ -1,8 +1,9 @@
-use super::boxed;
+use super::{bounds, boxed};
 use crate::noting::Noting;
 use extent::plane_box::PlaneBox;
 use painting::scene::{Placed, Scene};
 use raster::font::Font;
+use raster::shape::Bounds;
 use repaint::area::tile_area;
 use repaint::paint::paint_tile;
 use repaint::ruling::ruling_inks;
@@ -20,13 +21,17 @@ fn repaint<S: Surface>(surface: &mut S, shapes: &[Option<Placed>], t: u8) {
     paint_tile(surface, t, &tile);
 }
 
-/// Whether each pixel of the surface has the fresh painting's ink in the columns and rows given, and paper elsewhere.
+/// Whether the pixel (x, y) lies in the box.
+fn inside(tile: Bounds, x: u32, y: u32) -> bool {
+    tile.left <= x && x < tile.right && tile.top <= y && y < tile.bottom
+}
+
+/// Whether each pixel of the surface has the fresh painting's ink in the box, and paper elsewhere.
 fn fresh<S: Surface>(
     rt: &impl Abort,
     surface: &S,
     shapes: &[Option<Placed>],
-    from: (u16, u16),
-    to: (u16, u16),
+    tile: Bounds,
 ) -> Result<(), Fail> {
     let font = Font::built_in();
     let scene = Scene {
@@ -35,22 +40,22 @@ fn fresh<S: Surface>(
         spans: &[],
         frame: 0,
     };
-    for i in 0..400u16 {
-        let (x, y) = (i % 20, i / 20);
-        let here = from.0 <= x && x < to.0 && from.1 <= y && y < to.1;
-        let ink = if here { scene.ink_at(x, y) } else { 0 };
-        assert!(rt; surface.read(x, y)? == ink);
+    for y in 0..20u16 {
+        for x in 0..20u16 {
+            let here = inside(tile, x as u32, y as u32);
+            let ink = if here { scene.ink_at(x, y) } else { 0 };
+            assert_eq!(rt; surface.read(x, y)?, ink);
+        }
     }
     Ok(())
 }
 
-/// Repaints tile t of a surface of 20 by 20 pixels: all of the tile changes, nothing else does, and no run leaves it.
-fn one_tile<S: Surface + Drop>(
+/// Repaints tile t of a surface of 20 by 20 pixels: all of the box of the tile changes, nothing else does, and no run leaves it.
+fn one_tile(
     rt: &impl Abort,
-    below: S,
+    memory: &mut [u8; 400],
     t: u8,
-    from: (u16, u16),
-    to: (u16, u16),
+    tile: Bounds,
     runs: u32,
 ) -> Result<(), Fail> {
     let shapes = [
@@ -58,50 +63,20 @@ fn one_tile<S: Surface + Drop>(
         boxed(2, 2, 16, 16, 4),
         boxed(10, 10, 8, 8, 5),
     ];
-    let mut surface = Noting::new(below);
+    let mut surface = Noting::new(ByteSurface::new(memory, 20, 20));
     repaint(&mut surface, &shapes, t);
-    let around = surface.around();
-    assert!(rt; around.left == from.0 as u32 && around.top == from.1 as u32);
-    assert!(rt; around.right == to.0 as u32 && around.bottom == to.1 as u32);
+    assert!(rt; surface.around() == Some(tile));
     assert_eq!(rt; surface.runs(), runs);
-    fresh(rt, &surface, &shapes, from, to)
+    fresh(rt, &surface, &shapes, tile)
 }
 
 #[test]
 fn repaints_one_tile(rt: HostRuntime) -> Result<(), Fail> {
     let mut memory = [0; 400];
-    one_tile(
-        &rt,
-        ByteSurface::new(&mut memory, 20, 20),
-        0,
-        (0, 0),
-        (16, 16),
-        36,
-    )?;
-    one_tile(
-        &rt,
-        ByteSurface::new(&mut memory, 20, 20),
-        1,
-        (16, 0),
-        (20, 16),
-        30,
-    )?;
-    one_tile(
-        &rt,
-        ByteSurface::new(&mut memory, 20, 20),
-        2,
-        (0, 16),
-        (16, 20),
-        8,
-    )?;
-    one_tile(
-        &rt,
-        ByteSurface::new(&mut memory, 20, 20),
-        3,
-        (16, 16),
-        (20, 20),
-        6,
-    )
+    one_tile(&rt, &mut memory, 0, bounds(0, 0, 16, 16), 36)?;
+    one_tile(&rt, &mut memory, 1, bounds(16, 0, 20, 16), 30)?;
+    one_tile(&rt, &mut memory, 2, bounds(0, 16, 16, 20), 8)?;
+    one_tile(&rt, &mut memory, 3, bounds(16, 16, 20, 20), 6)
 }
 
 #[test]

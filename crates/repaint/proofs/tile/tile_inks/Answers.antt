@@ -1,9 +1,11 @@
-use Rattle.std.proofs.Common.{◌≡◌, ℕ, ◌<◌, get_or, ap, ◌∙◌, ap₂, arith}
+use Rattle.std.proofs.Common.{◌≡◌, ℕ, ◌+◌, ◌*◌, ◌/◌, ◌%◌, ◌<◌, cond, get_or, ap, inl, inr, ◌∙◌, ap₂, arith}
+use Rattle.raster.specs.Shapes.{covers}
 use Rattle.raster.specs.Sizes.{place}
 use Rattle.tiling.specs.Places.{column_of, row_of}
 use Rattle.tiling.specs.Found.{laid, laid_below}
 use Rattle.tiling.proofs.Laid.{laid_none, laid_more, laid_whole, column_back, row_back}
 use Rattle.repaint.proofs.tile.tile_inks.Goals as goal
+use Rattle.repaint.proofs.tile.tile_inks.Goals.{in-Some, in_default}
 
 pub loop-n-init : goal.loop-n-init
 loop-n-init c k h = c.paper-tile.ensures k ∙ laid_none c.args.font.now.rows c.args.shapes.now c.args.inks.now.values c.args.found.now _ _
@@ -11,20 +13,20 @@ loop-n-init c k h = c.paper-tile.ensures k ∙ laid_none c.args.font.now.rows c.
 pub loop-n-preserved : goal.loop-n-preserved
 loop-n-preserved c k h =
     let a = c.args in
-    laid_more a.font.now.rows a.shapes.now a.inks.now.values a.found.now c.loop-n.n c.at.result.value a.width a.t c.spot-column.result.0 c.spot-column.result.1 k _ c.pick.result _ _
-    c.spot-column.ensures.value.0
-    c.spot-column.ensures.value.1
-    c.loop-n-test.true
-    (c.of-listed.ensures c.loop-n.n)
-    c.pick.ensures
-    c.at.ensures
-    (c.lay_placed.ensures k h)
+    let s = c.of-spot.result in
+    let before = get_or c.loop-n.tile.values k 0 in
+    laid_more a.font.now.rows a.shapes.now a.inks.now.values a.found.now c.loop-n.n a.width a.t k s _ c.pick.result before _ c.of-spot.ensures.0 c.of-spot.ensures.1 (omega arith) (c.of-listed.ensures c.loop-n.n) c.pick.ensures
+    (elim c.match-pick.branch [
+      | in-Some w ↦ inr (w.in-Some.placed, w.in-Some.is, ap (λ i. get_or i.values k 0) w.tile-is ∙ w.lay.ensures k h ∙ ap (λ v. cond (covers a.font.now.rows w.in-Some.placed.shape (16 * s.column + k % 16) (16 * s.row + k / 16)) v before) w.at.ensures)
+      | in_default w ↦ inl (w.in_default.is, ap (λ i. get_or i.values k 0) w.tile-is)
+    ])
     (c.loop-n.invariant k h)
 
 pub returns : goal.returns
 returns c =
     let a = c.args in
-    let value : (k : ℕ) → k < 256 → get_or c.loop-n.tile.values k 0 ≡ laid a.font.now.rows a.shapes.now a.inks.now.values a.found.now (column_of a.width a.t k) (row_of a.width a.t k) = λ k h. c.loop-n.invariant k h ∙ ap (λ n. laid_below a.font.now.rows a.shapes.now a.inks.now.values a.found.now n (column_of a.width a.t k) (row_of a.width a.t k)) (omega (arith, c.loop-n-test.false, c.loop-n.auto.n-end)) in
+    let value : (k : ℕ) → k < 256 → get_or c.loop-n.tile.values k 0 ≡ laid a.font.now.rows a.shapes.now a.inks.now.values a.found.now (column_of a.width a.t k) (row_of a.width a.t k) = λ k h.
+    c.loop-n.invariant k h ∙ ap (λ n. laid_below a.font.now.rows a.shapes.now a.inks.now.values a.found.now n (column_of a.width a.t k) (row_of a.width a.t k)) (omega arith) in
     record {
       value = value;
       whole = λ d height e has-shapes ruled all x y h k tile.

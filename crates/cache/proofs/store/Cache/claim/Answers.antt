@@ -11,7 +11,7 @@ invariant_of-self g c =
     let ss = c.empty.new.self.slots in
     let i = c.args.self.now.next in
     let there : i < length ss = search rules in
-    let free = still_free c.args.self.now.slots ss i c.args.tile c.empty.ensures.free c.empty.ensures.others (c.find-found.ensures.missing c.if-found-lt4.false) in
+    let free = still_free c.args.self.now.slots ss i c.args.tile c.empty.ensures.free c.empty.ensures.others c.in_default.ensures in
     record { four = simp length-set c.empty.new.self.four; turn = omega arith; apart = apart_set ss i c.blank.result there c.empty.new.self.apart (λ j n. ap (λ o. same_tile o (tile_at ss j)) c.blank.ensures.tile ∙ free j) }
 
 pub returns : goal.returns
@@ -19,7 +19,7 @@ returns g c =
     let ss = c.empty.new.self.slots in
     let i = c.args.self.now.next in
     let there : i < length ss = search rules in
-    let free = still_free c.args.self.now.slots ss i c.args.tile c.empty.ensures.free c.empty.ensures.others (c.find-found.ensures.missing c.if-found-lt4.false) in
+    let free = still_free c.args.self.now.slots ss i c.args.tile c.empty.ensures.free c.empty.ensures.others c.in_default.ensures in
     record {
       bound = c.args.self.now.turn;
       holds = ap (λ o. is_tile o c.args.tile) (tile_set ss i c.blank.result there ∙ c.blank.ensures.tile) ∙ eq-eqb c.args.tile c.args.tile refl;

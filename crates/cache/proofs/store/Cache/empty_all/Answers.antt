@@ -1,14 +1,13 @@
-use Rattle.std.proofs.Common.{ap, ⊎_elim, arith}
-use Rattle.std.proofs.lemmas.Bool.{cases_lt}
-use Rattle.cache.specs.Slots.{is_tile}
-use Rattle.cache.proofs.Held.{held_none, tile_past}
+use Rattle.std.proofs.Common.{ap}
+use Rattle.cache.specs.Slots.{is_tile, same_tile, tile_at}
+use Rattle.cache.proofs.Held.{held_none}
 use Rattle.cache.proofs.store.Cache.empty_all.Goals as goal
 
+pub invariant_of-self-clause-apart : goal.invariant_of-self-clause-apart
+invariant_of-self-clause-apart g c = λ i j n. ap (λ o. same_tile o (tile_at c.pour_all.new.slots j)) (c.pour_all.ensures.free i)
+
 pub returns : goal.returns
-returns g c =
-    let ss = c.loop-slot.self.slots in
-    record {
-      quiet = c.loop-slot.invariant.0;
-      free = λ t k. held_none ss t k (λ j. ap (λ o. is_tile o t)
-          (⊎_elim (λ l. c.loop-slot.invariant.1 j (omega (arith, c.loop-slot-test.false))) (λ l. tile_past ss j (omega (arith, c.loop-slot.self.four))) (cases_lt j 4)));
-    }
+returns g c = record {
+  quiet = c.pour_all.ensures.quiet;
+  free = λ t k. held_none c.pour_all.new.slots t k (λ j. ap (λ o. is_tile o t) (c.pour_all.ensures.free j));
+}

@@ -1,5 +1,6 @@
 use Rattle.std.proofs.Common.{◌+◌, ◌*◌, min, cond, ◌&&◌, eqb, ltb, leb, Some, None}
-use Rattle.cache.specs.Cached.{Given, cached}
+use Rattle.cache.specs.Cached.{cached}
+use Rattle.handing.specs.Given.{Given}
 use Rattle.cache.proofs.store.Cache.put_run.Given as goal
 
 abbrev pub invariant-loop-column : goal.invariant-loop-column
