@@ -1,19 +1,53 @@
--- Counting on by one. Assumes nothing.
-use Rattle.std.proofs.Common.{◌≡◌, ℕ, ◌+◌, Bool, cond, refl, ap, add-one}
+-- Counts along the numbers from 0 on. Assumes nothing.
+use Rattle.std.proofs.Common.{◌≡◌, ℕ, zero, suc, ◌+◌, ◌*◌, ◌≤◌, Bool, true, false, cond, [], ◌∷◌, length, map, refl, sym, ap, ◌∙◌, ap₂, add-one, zero-add, arith}
+use Rattle.std.specs.List.{range_with_len, filter, sum_by}
+use Rattle.std.proofs.lemmas.List.{map-id, length-append}
+use Rattle.std.proofs.lemmas.List.FromFn.{filter_of_map_range_with_len_more, sum_by-map-range_with_len_more}
 use Rattle.list_book.specs.Counts.{tally, pixels_in}
 
-pub tally_none : (test : ℕ → Bool) → tally test 0 ≡ 0
+-- how many of the numbers below n pass the test
+pub tally_listed : (test : ℕ → Bool) (n : ℕ) → length (filter test (range_with_len 0 n)) ≡ tally test n
 unfolding tally
-tally_none test = refl
+tally_listed test n = ap (λ ns. length (filter test ns)) (sym (map-id (range_with_len 0 n))) ∙ go n
+  where
+    one : (b : Bool) (k : ℕ) → length (cond b (k ∷ []) []) ≡ cond b 1 0
+    one true k = refl
+    one false k = refl
 
-pub tally_more : (test : ℕ → Bool) (n : ℕ) → tally test (n + 1) ≡ tally test n + cond (test n) 1 0
+    go : (n : ℕ) → length (filter test (map (λ k. k) (range_with_len 0 n))) ≡ tally test n
+    go zero = refl
+    go (suc n) =
+        ap (λ m. length (filter test (map (λ k. k) (range_with_len 0 m)))) (sym (add-one n))
+        ∙ ap length (filter_of_map_range_with_len_more test (λ k. k) 0 n n (zero-add n))
+        ∙ length-append (filter test (map (λ k. k) (range_with_len 0 n))) (cond (test n) (n ∷ []) [])
+        ∙ ap₂ ◌+◌ (go n) (one (test n) n)
+
+-- and how many pixels the rows below h have together
+pub rows_listed : (area : ℕ → ℕ → Bool) (w h : ℕ) → sum_by (λ y. tally (λ x. area x y) w) (range_with_len 0 h) ≡ pixels_in area w h
+unfolding pixels_in
+rows_listed area w h = ap (sum_by row) (sym (map-id (range_with_len 0 h))) ∙ go h
+  where
+    row : ℕ → ℕ
+    row y = tally (λ x. area x y) w
+
+    go : (h : ℕ) → sum_by row (map (λ k. k) (range_with_len 0 h)) ≡ pixels_in area w h
+    go zero = refl
+    go (suc h) =
+        ap (λ m. sum_by row (map (λ k. k) (range_with_len 0 m))) (sym (add-one h))
+        ∙ sum_by-map-range_with_len_more row (λ k. k) 0 h h (zero-add h)
+        ∙ ap (λ n. n + row h) (go h)
+
+-- a row has no more than its width
+tally_le : (test : ℕ → Bool) (n : ℕ) → tally test n ≤ n
 unfolding tally
-tally_more test n = ap (tally test) (add-one n)
+tally_le test zero = omega arith
+tally_le test (suc n) = let h = tally_le test n in let b = one (test n) in omega arith
+  where
+    one : (b : Bool) → cond b 1 0 ≤ 1
+    one true = omega arith
+    one false = omega arith
 
-pub rows_none : (area : ℕ → ℕ → Bool) (w : ℕ) → pixels_in area w 0 ≡ 0
+pub pixels_in_le : (area : ℕ → ℕ → Bool) (w h : ℕ) → w ≤ 256 → pixels_in area w h ≤ 256 * h
 unfolding pixels_in
-rows_none area w = refl
-
-pub rows_more : (area : ℕ → ℕ → Bool) (w h : ℕ) → pixels_in area w (h + 1) ≡ pixels_in area w h + tally (λ x. area x h) w
-unfolding pixels_in
-rows_more area w h = ap (pixels_in area w) (add-one h)
+pixels_in_le area w zero e = omega arith
+pixels_in_le area w (suc h) e = omega (arith, pixels_in_le area w h e, tally_le (λ x. area x h) w)

@@ -7,6 +7,7 @@ pub mod calls;
 #[derive(Clone, Copy)]
 pub struct ShapeList {
     size: Size,
+    // A table for each kind, with 256 numbers, and no map: a map takes heap, and this is fixed memory.
     shapes: [Option<Placed>; 256],
     spans: [Option<Span>; 256],
     frame: u16,

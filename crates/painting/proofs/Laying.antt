@@ -1,9 +1,8 @@
 -- Laying one area after another. Assumes nothing.
-use Rattle.std.proofs.Common.{◌≡◌, ℕ, zero, suc, ◌+◌, ◌-◌, Bool, true, false, ◌&&◌, ◌||◌, eqb, ltb, leb, List, [], ◌∷◌, ◌++◌, take, Option, sym, refl, ap, ◌∙◌, ap₂, ⊎_elim, add-one, arith}
-use Rattle.std.proofs.lemmas.Bool.{cases_Bool, cases_eq, or_parts, both_ways}
+use Rattle.std.proofs.Common.{◌≡◌, ℕ, ◌+◌, ◌-◌, Bool, false, ◌&&◌, ◌||◌, eqb, ltb, leb, List, [], ◌∷◌, ◌++◌, sym, refl, ap, ◌∙◌, ap₂, ⊎_elim, arith}
+use Rattle.std.proofs.Math.Bool.{or_assoc}
+use Rattle.std.proofs.lemmas.Bool.{cases_Bool, cases_eq, or_cases, or_parts, both_ways}
 use Rattle.std.proofs.lemmas.Bool.Decides.{nat_tests}
-use Rattle.std.specs.List.{slice_get}
-use Rattle.std.specs.Option.{option_to_list}
 use Rattle.raster.specs.declared.shape.Cell.{Cell}
 use Rattle.raster.specs.declared.shape.Shape.TheVariants.{Figure}
 use Rattle.raster.specs.Fonts.{lit}
@@ -18,14 +17,10 @@ pub laid_then : (a b c : ℕ → ℕ → Bool) (ink : ℕ) (p q r : Picture) →
 laid_then a b c ink p q r same s t = record {
   sides = sides_then p q r s.sides t.sides;
   on = λ u v o e. ⊎_elim (λ h. t.on u v (on_again p q u v s.sides o) h)
-      (λ h. t.off u v (on_again p q u v s.sides o) h ∙ s.on u v o (first (a u v) (b u v) (sym (same u v) ∙ e) h))
+      (λ h. t.off u v (on_again p q u v s.sides o) h ∙ s.on u v o (⊎_elim (λ k. k) (λ k. absurd (both_ways (b u v) h k)) (or_cases (a u v) (b u v) (sym (same u v) ∙ e))))
       (cases_Bool (b u v));
   off = λ u v o e. let z = or_parts (a u v) (b u v) (sym (same u v) ∙ e) in t.off u v (on_again p q u v s.sides o) z.1 ∙ s.off u v o z.0;
 }
-  where
-    first : (x y : Bool) → (x || y) ≡ true → y ≡ false → x ≡ true
-    first true y e h = refl
-    first false y e h = absurd (both_ways y h e)
 
 -- the same area by another test
 pub laid_like : (a b : ℕ → ℕ → Bool) (ink : ℕ) (p q : Picture) → ((u v : ℕ) → On p u v → a u v ≡ b u v) → Laid a ink p q → Laid b ink p q
@@ -36,27 +31,16 @@ laid_like a b ink p q same s = record {
 }
 
 -- the pixels of a list, one after the other
-pub take_listed : {A : Type 0} (xs : List A) (i : ℕ) → take (i + 1) xs ≡ take i xs ++ option_to_list (slice_get xs i)
-take_listed xs i = ap (λ n. take n xs) (add-one i) ∙ go xs i
-  where
-    go : {A : Type 0} (xs : List A) (i : ℕ) → take (suc i) xs ≡ take i xs ++ option_to_list (slice_get xs i)
-    go [] zero = refl
-    go [] (suc i) = refl
-    go (x ∷ xs) zero = refl
-    go (x ∷ xs) (suc i) = ap (λ ys. x ∷ ys) (go xs i)
-
 pub among_append : (ps qs : List (ℕ × ℕ)) (u v : ℕ) → among (ps ++ qs) u v ≡ (among ps u v || among qs u v)
 among_append [] qs u v = refl
-among_append (p ∷ ps) qs u v = ap (λ b. (eqb p.0 u && eqb p.1 v) || b) (among_append ps qs u v) ∙ or_assoc (eqb p.0 u && eqb p.1 v) (among ps u v) (among qs u v)
-  where
-    or_assoc : (a b c : Bool) → (a || (b || c)) ≡ ((a || b) || c)
-    or_assoc true b c = refl
-    or_assoc false b c = refl
+among_append (p ∷ ps) qs u v = ap (λ b. (eqb p.0 u && eqb p.1 v) || b) (among_append ps qs u v) ∙ sym (or_assoc (eqb p.0 u && eqb p.1 v) (among ps u v) (among qs u v))
 
 -- one pixel more of a line
-pub among_more : (ps : List (ℕ × ℕ)) (o : Option (ℕ × ℕ)) (i u v : ℕ) → o ≡ slice_get ps i → among (take (i + 1) ps) u v ≡ (among (take i ps) u v || among (option_to_list o) u v)
-among_more ps o i u v e =
-    ap (λ qs. among qs u v) (take_listed ps i) ∙ among_append (take i ps) (option_to_list (slice_get ps i)) u v ∙ ap (λ w. among (take i ps) u v || among (option_to_list w) u v) (sym e)
+pub among_more : (ps : List (ℕ × ℕ)) (x y u v : ℕ) → among (ps ++ (x, y) ∷ []) u v ≡ (among ps u v || run_of x y 1 u v)
+among_more ps x y u v = among_append ps ((x, y) ∷ []) u v ∙ ap (λ b. among ps u v || b) (one x y u v)
+  where
+    one : (x y u v : ℕ) → ((eqb x u && eqb y v) || false) ≡ run_of x y 1 u v
+    one x y u v = grind (arith, nat_tests)
 
 -- what a font lights of a figure, in the columns and in the rows before some
 abbrev pub in_columns : List ℕ → Cell → ℕ → ℕ → ℕ → ℕ → Bool

@@ -1,3 +1,4 @@
 pub mod Topmost
+pub mod Numbers
 pub mod Laying
 pub mod Layers

@@ -1,9 +1,8 @@
 -- What painting does to a picture. Assumes nothing.
 use Rattle.std.specs.Prelude.{◌≡◌, ℕ, Bool, true, false, ◌&&◌, ◌==◌}
-use Rattle.std.specs.Option.{unwrap_or}
 use Rattle.raster.specs.Shapes.{of_the}
 use Rattle.surface.specs.Picture.{Picture, On, SameSides}
-use Rattle.painting.specs.Drawing.{Drawing, shape_ink, painting, Fresh}
+use Rattle.painting.specs.Drawing.{Drawing, painting, Fresh}
 
 -- the n pixels from (x, y) to the right
 abbrev pub run_of : ℕ → ℕ → ℕ → ℕ → ℕ → Bool
@@ -14,11 +13,6 @@ pub record Laid (area : ℕ → ℕ → Bool) (ink : ℕ) (p q : Picture) : Type
   pub sides : SameSides p q
   pub on : (u v : ℕ) → On p u v → area u v ≡ true → q.taken u v ≡ ink
   pub off : (u v : ℕ) → On p u v → area u v ≡ false → q.taken u v ≡ p.taken u v
-
--- shape n was laid over what was there
-pub record Over (d : Drawing) (n : ℕ) (p q : Picture) : Type 0 where
-  pub sides : SameSides p q
-  pub taken : (x y : ℕ) → On p x y → q.taken x y ≡ unwrap_or (shape_ink d x y (d.shapes n) n) (p.taken x y)
 
 -- every pixel takes and shows the fresh painting's ink, and none waits
 pub record Painted (d : Drawing) (p q : Picture) : Type 0 where

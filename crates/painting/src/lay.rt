@@ -1,5 +1,4 @@
 ghost use Rattle.std.specs.Prelude.{◌≡◌, ◌+◌, ◌<◌, ◌&&◌, ◌==◌};
-ghost use Rattle.std.specs.Option.{option_to_list};
 ghost use Rattle.raster.specs.declared.shape.Shape.TheVariants.{Figure};
 ghost use Rattle.raster.specs.Lines.{pixels, among};
 ghost use Rattle.raster.specs.Shapes.{of_the, covers};
@@ -10,6 +9,9 @@ use raster::ink::Ink;
 use raster::shape::{Cell, Ends, Rect, Shape};
 use surface::clip::run_clipped;
 use surface::surface::Surface;
+
+// The surface and the ink are two parameters throughout, as in a surface's own call `run`: a struct that held
+// both would have each function below promise besides that it keeps the borrow and the ink.
 
 /// Lays the ink on those of the n pixels from (x, y) to the right that the surface has.
 pub(crate) fn lay_run<S: Surface>(surface: &mut S, x: u32, y: u32, n: u32, ink: Ink)
@@ -27,30 +29,12 @@ fn lay_box<S: Surface>(surface: &mut S, b: Rect, ink: Ink)
     }
 }
 
-/// Lays the ink on one pixel, if there is one.
-fn lay_pixel<S: Surface>(surface: &mut S, pixel: Option<(u16, u16)>, ink: Ink)
-    ensures { Laid (among (option_to_list pixel)) ink.value (S.Surface.view surface.old) (S.Surface.view surface.new) }
-{
-    if let Some((x, y)) = pixel {
-        lay_run(surface, x as u32, y as u32, 1, ink);
-    }
-}
-
 /// Lays the ink on the pixels of a line.
 fn lay_line<S: Surface>(surface: &mut S, l: Ends, ink: Ink)
     ensures { Laid (among (pixels l)) ink.value (S.Surface.view surface.old) (S.Surface.view surface.new) }
 {
-    for i in 0..l.count() {
-        lay_pixel(surface, l.pixel(i), ink);
-    }
-}
-
-/// Lays the ink on the pixel (x, y), if it is lit.
-fn lay_lit<S: Surface>(surface: &mut S, lit: bool, x: u32, y: u32, ink: Ink)
-    ensures { Laid (λ u v. lit && run_of x y 1 u v) ink.value (S.Surface.view surface.old) (S.Surface.view surface.new) }
-{
-    if lit {
-        lay_run(surface, x, y, 1, ink);
+    for (x, y) in l.pixels() {
+        lay_run(surface, x as u32, y as u32, 1, ink);
     }
 }
 
@@ -60,14 +44,10 @@ fn lay_row<S: Surface>(surface: &mut S, font: &Font, f: Cell, row: u16, ink: Ink
     ensures { Laid (λ u v. covers font.now.rows (Figure f) u v && v == f.y + row) ink.value (S.Surface.view surface.old) (S.Surface.view surface.new) }
 {
     for column in 0..8u16 {
-        let lit = font.lights(f.glyph, column, row);
-        lay_lit(
-            surface,
-            lit,
-            f.x as u32 + column as u32,
-            f.y as u32 + row as u32,
-            ink,
-        );
+        if font.lights(f.glyph, column, row) {
+            let x = f.x as u32 + column as u32;
+            lay_run(surface, x, f.y as u32 + row as u32, 1, ink);
+        }
     }
 }
 

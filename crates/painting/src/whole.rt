@@ -1,10 +1,9 @@
-ghost use Rattle.painting.specs.Laid.{Laid, Over, Painted};
+ghost use Rattle.painting.specs.Laid.{Laid, Painted};
 ghost use Rattle.painting.specs.Scenes.{drawing};
-ghost use Rattle.std.specs.Prelude.{◌<◌, true};
+ghost use Rattle.std.specs.Prelude.{true};
 
 use crate::lay::{lay_run, lay_shape};
 use crate::scene::Scene;
-use crate::scene::inks::entry_at;
 use raster::ink::Ink;
 use surface::surface::Surface;
 
@@ -19,24 +18,16 @@ pub fn clear<S: Surface>(surface: &mut S)
     }
 }
 
-/// Lays the shape of that number, if there is one, in its ruling ink.
-fn lay_number<S: Surface>(scene: &Scene, n: u16, surface: &mut S)
-    requires { n < 256 }
-    ensures { Over (drawing scene.now) n (S.Surface.view surface.old) (S.Surface.view surface.new) }
-{
-    if let Some(placed) = entry_at(scene.shapes, n as usize) {
-        let ink = scene.ruling_ink(n, placed.ink);
-        lay_shape(surface, scene.font, placed.shape, ink);
-    }
-}
-
 /// Paints all of the scene, and settles: then every pixel takes and shows its ink of the fresh painting.
 pub fn paint_whole<S: Surface>(scene: &Scene, surface: &mut S)
     ensures { Painted (drawing scene.now) (S.Surface.view surface.old) (S.Surface.view surface.new) }
 {
     clear(surface);
-    for n in 0..256u16 {
-        lay_number(scene, n, surface);
+    for (number, placed) in (0..256).zip(scene.shapes) {
+        if let Some(placed) = placed {
+            let ink = scene.ruling_ink(number, placed.ink);
+            lay_shape(surface, scene.font, placed.shape, ink);
+        }
     }
     surface.settle();
 }

@@ -1,11 +1,14 @@
 -- The parts of a head, and its length. Assumes nothing.
-use Rattle.std.proofs.Common.{◌≡◌, ℕ, ◌+◌, ◌<◌, ◌≤◌, List, [], ◌∷◌, ◌++◌, length, drop, decimal, sym, ap, ◌∙◌, ap₂, append_assoc, arith, length-append}
+use Rattle.std.proofs.Common.{◌≡◌, ℕ, ◌+◌, ◌<◌, ◌≤◌, List, [], ◌∷◌, ◌++◌, length, drop, decimal, sym, ap, ◌∙◌, subst, ap₂, append_assoc, arith, length-append}
 use Rattle.std.proofs.lemmas.Fmt.{decimal_nonempty}
 use Rattle.raster.specs.Sizes.{Side}
 use Rattle.ppm.specs.Frames.{over, head_bytes}
 use Rattle.ppm.specs.Calls.{HeadMade}
+use Rattle.ppm.specs.declared.writer.Writer.{Writer}
+use Rattle.ppm.specs.Writers.{Puts}
+use Rattle.ppm.proofs.Puts.{puts_then}
 use Rattle.ppm.proofs.Numbers.{digits_below_thousand}
-use Rattle.ppm.proofs.Writes.{over_next, over_front}
+use Rattle.ppm.proofs.Writes.{over_front}
 
 -- "P6" and a line feed
 abbrev pub first : List ℕ
@@ -29,15 +32,12 @@ pub head_most : (w h : ℕ) → w < 1000 → h < 1000 → length (head_bytes w h
 head_most w h a b = omega (arith, length_head w h, digits_below_thousand w a, digits_below_thousand h b)
 
 -- the five parts, one after the other
-pub head_written : (old : List ℕ) (w h : ℕ) {o₁ o₂ o₃ o₄ new : List ℕ} {a₁ a₂ a₃ a₄ : ℕ} → o₁ ≡ over old 0 first → o₂ ≡ over o₁ a₁ (decimal w) → o₃ ≡ over o₂ a₂ (32 ∷ []) → o₄ ≡ over o₃ a₃ (decimal h) → new ≡ over o₄ a₄ last → a₁ ≡ 3 → a₂ ≡ a₁ + length (decimal w) → a₃ ≡ a₂ + 1 → a₄ ≡ a₃ + length (decimal h) → new ≡ over old 0 (head_bytes w h)
-head_written old w h e₁ e₂ e₃ e₄ e₅ n₁ n₂ n₃ n₄ =
-    let l₂ : length (first ++ decimal w) ≡ 3 + length (decimal w) = length-append first (decimal w) in
-    let l₃ : length ((first ++ decimal w) ++ (32 ∷ [])) ≡ 4 + length (decimal w) = length-append (first ++ decimal w) (32 ∷ []) ∙ omega arith in
-    let l₄ : length (((first ++ decimal w) ++ (32 ∷ [])) ++ decimal h) ≡ 4 + length (decimal w) + length (decimal h) = length-append ((first ++ decimal w) ++ (32 ∷ [])) (decimal h) ∙ omega arith in
-    let f₂ = over_next old first (decimal w) e₁ e₂ (omega arith) (omega arith) in
-    let f₃ = over_next old (first ++ decimal w) (32 ∷ []) f₂ e₃ (omega arith) (omega arith) in
-    let f₄ = over_next old ((first ++ decimal w) ++ (32 ∷ [])) (decimal h) f₃ e₄ (omega arith) (omega arith) in
-    over_next old (((first ++ decimal w) ++ (32 ∷ [])) ++ decimal h) last f₄ e₅ (omega arith) (omega arith) ∙ ap (over old 0) (head_parts w h)
+pub head_put :
+    {o₀ o₁ o₂ o₃ o₄ o₅ : Writer} (w h : ℕ) → o₀.end ≤ length o₀.output.now → Puts o₀ first o₁ → Puts o₁ (decimal w) o₂
+    → Puts o₂ (32 ∷ []) o₃ → Puts o₃ (decimal h) o₄ → Puts o₄ last o₅ → Puts o₀ (head_bytes w h) o₅
+head_put {o₀} {o₅ = o₅} w h room p₁ p₂ p₃ p₄ p₅ =
+    subst (λ bytes. Puts o₀ bytes o₅) (head_parts w h)
+    (puts_then room (puts_then room (puts_then room (puts_then room p₁ p₂) p₃) p₄) p₅)
 
 pub head_made : (w h : ℕ) (old : List ℕ) {v u n : ℕ} {new : List ℕ} → Side w × Side h → (v ≡ w) × (u ≡ h) → 15 ≤ length old → n ≡ length (head_bytes v u) → new ≡ over old 0 (head_bytes v u) → HeadMade w h old n new
 head_made w h old {v} {u} {n} {new} s e r l b =

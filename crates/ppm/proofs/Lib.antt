@@ -3,3 +3,4 @@ pub mod Numbers
 pub mod Heads
 pub mod Rows
 pub mod Whole
+pub mod Puts

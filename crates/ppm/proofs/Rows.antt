@@ -1,22 +1,14 @@
 -- A row, pixel by pixel. Assumes nothing.
-use Rattle.std.proofs.Common.{◌≡◌, ℕ, zero, suc, ◌+◌, ◌*◌, ◌<◌, ◌≤◌, List, [], ◌∷◌, ◌++◌, length, drop, sym, refl, ap, ◌∙◌, ap₂, add-one, arith, length-append}
+use Rattle.std.proofs.Common.{◌≡◌, ℕ, zero, suc, ◌+◌, ◌*◌, ◌<◌, ◌≤◌, List, [], ◌∷◌, ◌++◌, length, drop, sym, refl, ap, ◌∙◌, add-one, arith, length-append}
 use Rattle.std.specs.List.{range_with_len, flat_map}
 use Rattle.std.proofs.lemmas.List.FromFn.{map-range_with_len_more}
 use Rattle.std.proofs.lemmas.List.{map-id, flat_map_more}
-use Rattle.raster.specs.Inks.{red_of, green_of, blue_of}
 use Rattle.surface.specs.Picture.{Picture}
 use Rattle.ppm.specs.Frames.{ink_bytes, front_bytes, row_bytes_lem, over}
 use Rattle.ppm.specs.Calls.{RowMade}
 use Rattle.ppm.proofs.Writes.{over_none, over_next, over_front}
 
--- the three bytes of an ink, one after the other
-pub ink_written : (old : List ℕ) (k : ℕ) {o₁ o₂ new : List ℕ} {i a₁ a₂ r g b : ℕ} → o₁ ≡ over old i (r ∷ []) → o₂ ≡ over o₁ a₁ (g ∷ []) → new ≡ over o₂ a₂ (b ∷ []) → a₁ ≡ i + 1 → a₂ ≡ a₁ + 1 → i ≤ length old → (r ≡ red_of k) × (g ≡ green_of k) × (b ≡ blue_of k) → new ≡ over old i (ink_bytes k)
-unfolding ink_bytes
-ink_written old k {i = i} {r = r} {g = g} {b = b} e₁ e₂ e₃ n₁ n₂ h c =
-    over_next old (r ∷ g ∷ []) (b ∷ []) (over_next old (r ∷ []) (g ∷ []) e₁ e₂ n₁ h) e₃ (omega arith) h
-    ∙ ap₂ (λ x z. over old i (x ∷ g ∷ z ∷ [])) c.0 c.2
-    ∙ ap (λ z. over old i (red_of k ∷ z ∷ blue_of k ∷ [])) c.1
-
+-- the library has this of `map` only; guttman's Heights has it too, and neither crate uses the other
 pub counting_more : (n : ℕ) → range_with_len 0 (n + 1) ≡ range_with_len 0 n ++ n ∷ []
 counting_more n =
     sym (map-id (range_with_len 0 (n + 1))) ∙ map-range_with_len_more (λ x. x) 0 n n (omega arith) ∙ ap (λ xs. xs ++ n ∷ []) (map-id (range_with_len 0 n))
@@ -26,7 +18,7 @@ unfolding front_bytes
 front_more p y n =
     ap (flat_map (λ x. ink_bytes (p.taken x y))) (counting_more n) ∙ sym (flat_map_more (λ x. ink_bytes (p.taken x y)) [] (range_with_len 0 n) n)
 
-length_ink : (k : ℕ) → length (ink_bytes k) ≡ 3
+pub length_ink : (k : ℕ) → length (ink_bytes k) ≡ 3
 unfolding ink_bytes
 length_ink k = refl
 

@@ -1,9 +1,8 @@
 -- Bytes written over a list, one part after the other. Assumes nothing.
-use Rattle.std.proofs.Common.{◌≡◌, ℕ, ◌+◌, ◌<◌, ◌≤◌, List, [], ◌∷◌, ◌++◌, length, take, drop, set, sym, refl, ap, ◌∙◌, zero-add, add-one, length-append}
+use Rattle.std.proofs.Common.{◌≡◌, ℕ, ◌+◌, ◌≤◌, List, [], ◌++◌, length, drop, sym, refl, ap, ◌∙◌, zero-add, length-append}
 use borrow.Rule.Slice.PartMut.{put_mid}
 use lib.Seq.{paste}
 use Rattle.std.proofs.lemmas.List.Edits.{paste_all, paste_none, paste-paste}
-use Rattle.std.proofs.lemmas.List.{set_split}
 use Rattle.std.proofs.lemmas.Slice.{put_mid-paste}
 use Rattle.ppm.specs.Frames.{over}
 
@@ -13,11 +12,6 @@ paste_over old i s = paste_all old i s (length s) refl
 
 pub over_none : (old : List ℕ) (i : ℕ) → over old i [] ≡ old
 over_none old i = sym (paste_over old i []) ∙ sym (paste_none old i [])
-
--- one byte
-pub over_one : (old : List ℕ) (i b : ℕ) → i < length old → set old i b ≡ over old i (b ∷ [])
-unfolding over
-over_one old i b h = set_split old i b h ∙ ap (λ n. take i old ++ b ∷ drop n old) (sym (add-one i))
 
 -- a part of a slice that was copied into
 pub over_part : (old : List ℕ) (i k : ℕ) (s t : List ℕ) → t ≡ s → length s ≡ k → put_mid i k old t ≡ over old i s

@@ -1,5 +1,5 @@
 -- The picture of a card. Assumes nothing.
-use Rattle.std.specs.Prelude.{◌≡◌, ℕ, ◌+◌, ◌*◌, ◌<◌, ◌≤◌, false, List, slice_index, refl}
+use Rattle.std.specs.Prelude.{◌≡◌, ℕ, ◌+◌, ◌*◌, false, List, slice_index, refl}
 use Rattle.std.proofs.Common.{arith}
 use Rattle.surface.specs.Picture.{Picture, Lawful}
 use Rattle.ppm_tests.specs.declared.card.Card.{Card}
@@ -17,9 +17,3 @@ pictured c = record {
 -- it is small, and shows each ink at once
 pub pictured_lawful : (c : Card) → Lawful (pictured c)
 pictured_lawful c = record { narrow = omega arith; low = omega arith; still = λ x y _ _. refl }
-
--- the places from a to b - 1 took the ink, and every other is kept
-pub record Filled (old : List ℕ) (a b ink : ℕ) (new : List ℕ) : Type 0 where
-  pub within : (k : ℕ) → a ≤ k → k < b → slice_index new k ≡ ink
-  pub before : (k : ℕ) → k < a → slice_index new k ≡ slice_index old k
-  pub behind : (k : ℕ) → b ≤ k → slice_index new k ≡ slice_index old k

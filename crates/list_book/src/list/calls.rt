@@ -45,7 +45,7 @@ impl ShapeList {
             return Err(Refusal::Number);
         }
         shape.check_figures()?;
-        let ink = Ink::new(ink)?;
+        let ink = Ink::try_from(ink)?;
         shape.check_bounds(self.size)?;
         self.shapes[number as usize] = Some(Placed { shape, ink });
         Ok(())
@@ -54,6 +54,7 @@ impl ShapeList {
     /// Adds a span: the shape has the ink from one frame to another. Refuses with 6 if a number is
     /// above 255, 7 if the span's number is used, 8 if the shape's is unused, 12 if the first frame
     /// is above the last, 9 for a bad ink.
+    // Five figures, as a caller has them, and no `Span`: each of them may be bad, and a `Span` has an ink that is good.
     pub fn span(
         &mut self,
         number: u16,
@@ -77,7 +78,7 @@ impl ShapeList {
         if from > to {
             return Err(Refusal::Frames);
         }
-        let ink = Ink::new(ink)?;
+        let ink = Ink::try_from(ink)?;
         self.spans[number as usize] = Some(Span {
             shape,
             from,

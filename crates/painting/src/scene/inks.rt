@@ -1,4 +1,4 @@
-ghost use Rattle.std.specs.Prelude.{◌≡◌, ◌<◌};
+ghost use Rattle.std.specs.Prelude.{◌≡◌};
 ghost use Rattle.std.specs.Option.{unwrap_or, option_map};
 ghost use Rattle.painting.specs.Drawing.{holds as holds_frame, span_ink, ruling, RulingInk, shape_ink, painting, Fresh};
 ghost use Rattle.painting.specs.Scenes.{drawing, item, turn, at_number};
@@ -19,10 +19,11 @@ impl Span {
 pub fn entry_at<T: Copy>(table: &[Option<T>], n: usize) -> Option<T>
     ensures { result ≡ at_number table.now n }
 {
-    if n >= 256 || n >= table.len() {
-        return None;
+    if n < 256 {
+        table.get(n).copied().flatten()
+    } else {
+        None
     }
-    table[n]
 }
 
 /// The ink that a span gives to a shape at a frame, else the ink below.
@@ -30,14 +31,8 @@ fn over_span(span: Option<Span>, number: u16, frame: u16, below: Ink) -> Ink
     ensures { result.value ≡ unwrap_or (span_ink (option_map turn span) number frame) below.value }
 {
     match span {
-        Some(span) => {
-            if span.holds(number, frame) {
-                span.ink
-            } else {
-                below
-            }
-        }
-        None => below,
+        Some(span) if span.holds(number, frame) => span.ink,
+        _ => below,
     }
 }
 
@@ -48,8 +43,8 @@ impl Scene<'_> {
         ensures words { RulingInk (drawing self.now) number own.value result.value }
     {
         let mut ink = own;
-        for s in 0..256usize {
-            ink = over_span(entry_at(self.spans, s), number, self.frame, ink);
+        for span in self.spans.iter().take(256) {
+            ink = over_span(*span, number, self.frame, ink);
         }
         ink
     }
@@ -59,14 +54,10 @@ impl Scene<'_> {
         ensures { result ≡ unwrap_or (shape_ink (drawing self.now) x y (option_map item placed) number) below }
     {
         match placed {
-            Some(placed) => {
-                if placed.shape.covers(self.font, x, y) {
-                    self.ruling_ink(number, placed.ink).value
-                } else {
-                    below
-                }
+            Some(placed) if placed.shape.covers(self.font, x, y) => {
+                self.ruling_ink(number, placed.ink).value
             }
-            None => below,
+            _ => below,
         }
     }
 
@@ -76,8 +67,8 @@ impl Scene<'_> {
         ensures words { Fresh (drawing self.now) x y result }
     {
         let mut ink = 0;
-        for n in 0..256u16 {
-            ink = self.over_shape(entry_at(self.shapes, n as usize), n, x, y, ink);
+        for (number, placed) in (0..256).zip(self.shapes) {
+            ink = self.over_shape(*placed, number, x, y, ink);
         }
         ink
     }

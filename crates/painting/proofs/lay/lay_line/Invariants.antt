@@ -1,7 +1,6 @@
-use Rattle.std.proofs.Common.{take}
-use Rattle.raster.specs.Lines.{pixels, among}
+use Rattle.raster.specs.Lines.{among}
 use Rattle.painting.specs.Laid.{Laid}
 use Rattle.painting.proofs.lay.lay_line.Given as goal
 
-abbrev pub invariant-loop-i : goal.invariant-loop-i
-invariant-loop-i g l = Laid (among (take l.i (pixels l.l))) l.ink.value (g.S.Surface.view l.initial.surface) (g.S.Surface.view l.surface)
+abbrev pub invariant-loop-x : goal.invariant-loop-x
+invariant-loop-x g l = Laid (among l.yielded) l.ink.value (g.S.Surface.view l.initial.surface) (g.S.Surface.view l.surface)

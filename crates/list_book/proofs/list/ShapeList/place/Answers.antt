@@ -4,7 +4,7 @@ use Rattle.painting.specs.Scenes.{item}
 use Rattle.list_book.specs.Book.{place_refusal}
 use Rattle.list_book.specs.Views.{book}
 use Rattle.list_book.proofs.Steps.{unless_true, same_book, accepted}
-use Rattle.list_book.proofs.Tables.{put_there}
+use Rattle.painting.proofs.Numbers.{entry_written}
 use Rattle.list_book.proofs.list.ShapeList.place.Goals as goal
 
 pub returns : goal.returns
@@ -19,6 +19,6 @@ returns c =
     record {
       answer = none;
       after = accepted _ b _ _ none (same_book _ _ refl refl
-          (λ k. put_there item xs n k _ (omega arith) there ∙ ap (λ i. cond (eqb k n) (Some (record { shape = c.args.shape; ink = i })) (b.shapes k)) ink.1)
+          (λ k. entry_written item xs n k _ (omega arith) there ∙ ap (λ i. cond (eqb k n) (Some (record { shape = c.args.shape; ink = i })) (b.shapes k)) ink.1)
           (λ s. refl) refl);
     }

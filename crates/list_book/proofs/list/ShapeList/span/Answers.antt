@@ -4,7 +4,8 @@ use Rattle.painting.specs.Scenes.{item, turn}
 use Rattle.list_book.specs.Book.{span_refusal}
 use Rattle.list_book.specs.Views.{book}
 use Rattle.list_book.proofs.Steps.{unless_true, same_book, accepted}
-use Rattle.list_book.proofs.Tables.{put_there, some_there}
+use Rattle.painting.proofs.Numbers.{entry_written}
+use Rattle.list_book.proofs.Tables.{some_there}
 use Rattle.list_book.proofs.list.ShapeList.span.Goals as goal
 
 pub returns : goal.returns
@@ -28,6 +29,6 @@ returns c =
     record {
       answer = none;
       after = accepted _ b _ _ none (same_book _ _ refl refl (λ k. refl)
-          (λ k. put_there turn xs s k _ small there ∙ ap (λ i. cond (eqb k s) (Some (record { shape = c.args.shape; from = c.args.from; to = c.args.to; ink = i })) (b.spans k)) ink.1)
+          (λ k. entry_written turn xs s k _ small there ∙ ap (λ i. cond (eqb k s) (Some (record { shape = c.args.shape; from = c.args.from; to = c.args.to; ink = i })) (b.spans k)) ink.1)
           refl);
     }
