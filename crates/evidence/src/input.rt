@@ -1,89 +1,42 @@
-ghost use Rattle.std.specs.Prelude.{◌≤◌};
-
+use std::alloc::Global;
 use std::io;
-use std::io::Read;
+use std::io::{BufRead, BufReader, Read, Stdin, Take};
 
-/// More bytes than any line of a sheet has; of a longer line only so many are kept, and they are no line of a sheet.
-const ROOM: usize = 64;
+/// More bytes than any line of a sheet has, with its line feed. Of a longer line only so many are read, and they are no line of a sheet.
+const ROOM: u64 = 65;
 
-/// The bytes of standard input, read in parts.
+/// The lines of standard input, each without its line feed; a line that is cut off goes on in the next one.
 #[derive(Drop)]
-pub struct Input {
-    part: [u8; 4096],
-    at: usize,
-    end: usize,
+pub struct InputLines {
+    heap: Global,
+    reader: Take<BufReader<Stdin>>,
 }
 
-/// One line of the input without its line feed, cut off after 64 bytes.
-#[derive(Drop)]
-pub struct InputLine {
-    bytes: [u8; 64],
-    length: usize,
-    ended: bool,
-    ghost room: { length ≤ 64 },
-}
-
-impl InputLine {
-    fn new() -> InputLine {
-        InputLine {
-            bytes: [0; 64],
-            length: 0,
-            ended: false,
-        }
+impl InputLines {
+    pub fn new(rt: &HostRuntime) -> io::Result<InputLines> {
+        let reader = BufReader::new(rt.alloc(), rt.stdin())?.take(ROOM);
+        Ok(InputLines {
+            heap: rt.alloc(),
+            reader,
+        })
     }
 
-    fn push(&mut self, byte: u8) {
-        if self.length < ROOM {
-            self.bytes[self.length] = byte;
-            self.length += 1;
-        }
-    }
-
-    /// The line's bytes.
-    pub fn bytes(&self) -> &[u8] {
-        &self.bytes[0..self.length]
-    }
-
-    /// Whether the input ended before this line.
-    pub fn is_end(&self) -> bool {
-        self.ended && self.length == 0
-    }
-}
-
-impl Input {
-    pub fn new() -> Input {
-        Input {
-            part: [0; 4096],
-            at: 0,
-            end: 0,
-        }
-    }
-
-    /// The next byte, or none at the end.
-    fn next_byte(&mut self, rt: &HostRuntime) -> io::Result<Option<u8>> {
-        if self.at >= self.end {
-            self.end = rt.stdin().read(&mut self.part)?;
-            self.at = 0;
-        }
-        let byte = self.part.get(self.at).copied();
-        if self.at >= self.end {
+    /// The next line, if the input has not ended.
+    fn next_line(&mut self) -> io::Result<Option<Vec<u8>>> {
+        let mut line = Vec::new(self.heap);
+        self.reader.set_limit(ROOM);
+        if self.reader.read_until(b'\n', &mut line)? == 0 {
             return Ok(None);
         }
-        self.at = self.at.saturating_add(1);
-        Ok(byte)
+        line.pop_if(|byte| *byte == b'\n');
+        Ok(Some(line))
     }
+}
 
-    /// The next line; at the end of the input, an empty one that says so.
-    pub fn line(&mut self, rt: &HostRuntime) -> io::Result<InputLine> {
-        let mut line = InputLine::new();
-        for _ in 0..u64::MAX {
-            match self.next_byte(rt)? {
-                Some(b'\n') => return Ok(line),
-                Some(byte) => line.push(byte),
-                None => break,
-            }
-        }
-        line.ended = true;
-        Ok(line)
+impl Iterator for InputLines {
+    type Item = io::Result<Vec<u8>>;
+
+    fn next(&mut self) -> Option<io::Result<Vec<u8>>> {
+        self.next_line().transpose()
     }
 }

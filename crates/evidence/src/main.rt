@@ -8,7 +8,7 @@ mod picture;
 mod stop;
 
 use cache::store::Cache;
-use input::Input;
+use input::InputLines;
 use listing::line::Line;
 use painting::whole::paint_whole;
 use panel::Panel;
@@ -16,11 +16,11 @@ use picture::print_picture;
 use plane::planes::PlaneSurface;
 use ppm::frame;
 use raster::font::Font;
-use record::{fault_record, line_record};
+use record::{Record, Rejection};
 use shape_list::list::ShapeList;
 use shape_list::reading::{start, take};
 use std::process::ExitCode;
-use std::{env, fs};
+use std::{env, fs, io};
 use stop::Stop;
 use surface::byte::ByteSurface;
 use surface::surface::Surface;
@@ -28,96 +28,61 @@ use surface::surface::Surface;
 /// Bytes enough for a sheet of any size on each panel.
 const ROOM: usize = 65536;
 
-/// Prints the record of line k.
-fn print_record(
-    rt: &HostRuntime,
-    font: &Font,
-    k: u64,
-    line: Line,
-    list: &ShapeList,
-) -> Result<(), Stop> {
+/// The record of line k, after which the list is as given.
+fn record(font: &Font, list: &ShapeList, k: u64, line: Line) -> Record {
     let pixels = match line {
         Line::Shape { shape, .. } => list.covered(font, shape),
         _ => 0,
     };
-    rt.println(line_record(rt.alloc(), k, line, pixels)?)?;
-    Ok(())
-}
-
-/// Takes in the first line, which begins the list.
-fn read_first(rt: &HostRuntime, font: &Font, input: &mut Input) -> Result<ShapeList, Stop> {
-    let line = input.line(rt)?;
-    match start(line.bytes()) {
-        Ok(list) => {
-            let (width, height) = list.sides();
-            print_record(rt, font, 1, Line::Sheet { width, height }, &list)?;
-            Ok(list)
-        }
-        Err(fault) => Err(Stop::Fault(1, fault)),
+    Record {
+        number: k,
+        line,
+        pixels,
     }
 }
 
-/// Takes in one line after the first, and prints its record; false where the input has ended.
-fn read_next(
-    rt: &HostRuntime,
-    font: &Font,
-    k: u64,
-    input: &mut Input,
-    list: &mut ShapeList,
-) -> Result<bool, Stop> {
-    let line = input.line(rt)?;
-    if line.is_end() {
-        return Ok(false);
-    }
-    match take(list, line.bytes()) {
-        Ok(line) => {
-            print_record(rt, font, k, line, list)?;
-            Ok(true)
-        }
-        Err(fault) => Err(Stop::Fault(k, fault)),
-    }
+/// Takes in the first line, which begins the list; an input without lines begins as one with an empty line does.
+fn read_first(lines: &mut InputLines) -> Result<ShapeList, Stop> {
+    let list = match lines.next() {
+        Some(line) => start(line?.as_slice()),
+        None => start(b""),
+    };
+    list.map_err(|fault| Stop::Rejected(Rejection { number: 1, fault }))
 }
 
 /// Reads the list from standard input, and prints the record of each line that it takes.
-fn read_list(rt: &HostRuntime, font: &Font) -> Result<ShapeList, Stop> {
-    let mut input = Input::new();
-    let mut list = read_first(rt, font, &mut input)?;
-    for k in 2..u64::MAX {
-        if !read_next(rt, font, k, &mut input, &mut list)? {
-            break;
-        }
+fn read_list(rt: &HostRuntime) -> Result<ShapeList, Stop> {
+    let font = Font::built_in();
+    let mut lines = InputLines::new(rt)?;
+    let mut list = read_first(&mut lines)?;
+    let (width, height) = list.sides();
+    rt.println(record(&font, &list, 1, Line::Sheet { width, height }))?;
+    for (k, bytes) in (2..u64::MAX).zip(lines) {
+        let line = take(&mut list, bytes?.as_slice()).map_err(|fault| Stop::Rejected(Rejection {
+            number: k,
+            fault,
+        }))?;
+        rt.println(record(&font, &list, k, line))?;
     }
     Ok(list)
 }
 
 /// The panel and the file name that the arguments give.
 fn choices(rt: &HostRuntime) -> Result<(Panel, Option<String>), Stop> {
-    let mut words = env::args(rt)?;
-    let _ = words.next();
-    let mut name = words.next();
+    let mut words = env::args(rt)?.skip(1).peekable();
     let mut panel = Panel::Byte;
-    if is_panel_option(&name) {
-        let Some(word) = words.next() else {
-            return Err(Stop::Usage);
-        };
-        let Some(chosen) = Panel::named(word.as_str()) else {
+    if words.next_if(|word| word.as_str() == "--panel").is_some() {
+        let word = words.next().ok_or(Stop::Usage)?;
+        let Ok(chosen) = word.as_str().parse() else {
             return Err(Stop::Panel(word));
         };
         panel = chosen;
-        name = words.next();
     }
+    let name = words.next();
     if words.next().is_some() {
         return Err(Stop::Usage);
     }
     Ok((panel, name))
-}
-
-/// Whether the word is `--panel`.
-fn is_panel_option(word: &Option<String>) -> bool {
-    match word {
-        Some(word) => word.as_str() == "--panel",
-        None => false,
-    }
 }
 
 /// Paints the list whole on a surface, prints the picture, and answers its frame.
@@ -130,13 +95,13 @@ fn paint<S: Surface>(rt: &HostRuntime, list: ShapeList, surface: &mut S) -> Resu
 }
 
 /// The same on a cache over the surface.
+// Not written out in `paint_on`: the check covers a cache over a surface of lent memory only where the surface is a type parameter.
 fn paint_cached<S: Surface + Drop>(
     rt: &HostRuntime,
     list: ShapeList,
     surface: S,
 ) -> Result<Vec<u8>, Stop> {
-    let mut cache = Cache::new(surface);
-    paint(rt, list, &mut cache)
+    paint(rt, list, &mut Cache::new(surface))
 }
 
 /// The same on a cache over a cache over the surface.
@@ -149,6 +114,7 @@ fn paint_twice_cached<S: Surface + Drop>(
 }
 
 /// Paints the list on the chosen panel, over memory that is large enough for each.
+// Each arm calls with a surface of its own type: `rt ci` refuses a function that makes a `dyn` value and hands it out, and `paint` is generic over the surface.
 fn paint_on(rt: &HostRuntime, list: ShapeList, panel: Panel) -> Result<Vec<u8>, Stop> {
     let (width, height) = list.sides();
     let mut memory = vec![in rt.alloc(); 0u8; ROOM]?;
@@ -168,8 +134,7 @@ fn paint_on(rt: &HostRuntime, list: ShapeList, panel: Panel) -> Result<Vec<u8>, 
 /// Reads the list, paints it whole, and shows it.
 fn run(rt: &HostRuntime) -> Result<(), Stop> {
     let (panel, name) = choices(rt)?;
-    let font = Font::built_in();
-    let list = read_list(rt, &font)?;
+    let list = read_list(rt)?;
     let bytes = paint_on(rt, list, panel)?;
     if let Some(name) = name {
         fs::write(rt, name.as_str(), bytes.as_slice())?;
@@ -180,18 +145,12 @@ fn run(rt: &HostRuntime) -> Result<(), Stop> {
     Ok(())
 }
 
-/// Says why the program stopped.
-fn report(rt: &HostRuntime, stop: &Stop) -> Result<(), Stop> {
+/// Says why the program stopped: the record's reader where a line was not taken, and else the caller.
+fn report(rt: &HostRuntime, stop: &Stop) -> io::Result<()> {
     match stop {
-        Stop::Fault(k, fault) => rt.println(fault_record(rt.alloc(), *k, *fault)?)?,
-        Stop::Usage => eprintln!(rt; "usage: evidence [--panel NAME] [FRAME.ppm] < LIST")?,
-        Stop::Panel(name) => eprintln!(rt;
-            "evidence: no panel is named {name}: byte, plane, cached-byte, cached-plane, twice-cached-plane"
-        )?,
-        Stop::Io(error) => eprintln!(rt; "evidence: {error}")?,
-        Stop::Memory => eprintln!(rt; "evidence: out of memory")?,
+        Stop::Rejected(rejection) => rt.println(rejection),
+        _ => rt.eprintln(stop),
     }
-    Ok(())
 }
 
 fn main(rt: HostRuntime) -> ExitCode {

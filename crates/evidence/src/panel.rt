@@ -1,3 +1,5 @@
+use std::str::FromStr;
+
 /// What the sheet is painted on.
 #[derive(Clone, Copy)]
 pub enum Panel {
@@ -8,16 +10,22 @@ pub enum Panel {
     TwiceCachedPlane,
 }
 
-impl Panel {
-    /// The panel of that name.
-    pub fn named(name: &str) -> Option<Panel> {
+/// No panel has the name.
+#[derive(Clone, Copy)]
+pub struct UnknownPanel;
+
+impl FromStr for Panel {
+    type Err = UnknownPanel;
+
+    // The names stand again in the text of `Stop`: to write them there from a table would take a loop and a separator, for five words.
+    fn from_str(name: &str) -> Result<Panel, UnknownPanel> {
         match name {
-            "byte" => Some(Panel::Byte),
-            "plane" => Some(Panel::Plane),
-            "cached-byte" => Some(Panel::CachedByte),
-            "cached-plane" => Some(Panel::CachedPlane),
-            "twice-cached-plane" => Some(Panel::TwiceCachedPlane),
-            _ => None,
+            "byte" => Ok(Panel::Byte),
+            "plane" => Ok(Panel::Plane),
+            "cached-byte" => Ok(Panel::CachedByte),
+            "cached-plane" => Ok(Panel::CachedPlane),
+            "twice-cached-plane" => Ok(Panel::TwiceCachedPlane),
+            _ => Err(UnknownPanel),
         }
     }
 }

@@ -1,12 +1,13 @@
-use shape_list::fault::Fault;
-use std::alloc::{AllocError, AllocFailed};
-use std::io;
+use record::Rejection;
+use std::alloc::AllocError;
+use std::error::Error;
+use std::{fmt, io};
 
 /// Why the program stops early.
-#[derive(Drop)]
+#[derive(Debug, Drop)]
 pub enum Stop {
-    /// The line of that number was not taken.
-    Fault(u64, Fault),
+    /// A line was not taken.
+    Rejected(Rejection),
     /// The arguments are not as they should be.
     Usage,
     /// No panel has that name.
@@ -17,6 +18,23 @@ pub enum Stop {
     Memory,
 }
 
+impl fmt::Display for Stop {
+    fn fmt<W: fmt::Write>(&self, f: &mut fmt::Formatter<W>) -> fmt::Result {
+        match self {
+            Stop::Rejected(rejection) => write!(f, "{rejection}"),
+            Stop::Usage => write!(f, "usage: evidence [--panel NAME] [FRAME.ppm] < LIST"),
+            Stop::Panel(name) => write!(
+                f,
+                "evidence: no panel is named {name}: byte, plane, cached-byte, cached-plane, twice-cached-plane"
+            ),
+            Stop::Io(error) => write!(f, "evidence: {error}"),
+            Stop::Memory => write!(f, "evidence: out of memory"),
+        }
+    }
+}
+
+impl Error for Stop {}
+
 impl From<io::Error> for Stop {
     fn from(error: io::Error) -> Stop {
         Stop::Io(error)
@@ -25,12 +43,6 @@ impl From<io::Error> for Stop {
 
 impl From<AllocError> for Stop {
     fn from(_error: AllocError) -> Stop {
-        Stop::Memory
-    }
-}
-
-impl<T: Drop> From<AllocFailed<T>> for Stop {
-    fn from(_error: AllocFailed<T>) -> Stop {
         Stop::Memory
     }
 }

@@ -1,6 +1,6 @@
 -- Figures read one after the other.
-use Rattle.std.proofs.Common.{◌≡◌, ℕ, ◌+◌, ◌<◌, ◌≤◌, List, [], ◌∷◌, ◌++◌, length, get_or, take, drop, set, Some, None, decimal, sym, refl, ap, ◌∙◌, subst, arith, length-set}
-use Rattle.std.proofs.lemmas.List.{append-nil, append_assoc, take_all, take_more_set, drop_more, drop_all, nil_from_length}
+use Rattle.std.proofs.Common.{◌≡◌, ℕ, ◌+◌, ◌<◌, ◌≤◌, List, [], ◌∷◌, ◌++◌, length, get_or, take, drop, set, None, decimal, sym, ap, ◌∙◌, subst, arith, length-set}
+use Rattle.std.proofs.lemmas.List.{append-nil, append_assoc, take_more_set, drop_more}
 use Rattle.std.proofs.ByRecursion.{All-push, All-get_or}
 use Rattle.listing.specs.Text.{spaced, Small}
 use Rattle.listing.specs.Figures.{Ended, Front, Reads, FiguresOf}
@@ -35,9 +35,6 @@ next i ns rest l s e =
       ended = spaced_ended (drop (i + 1) ns);
     }
 
-pub going_none : (bytes : List ℕ) (count : ℕ) (values : List ℕ) → length values ≡ count → Going bytes count 0 values bytes
-going_none bytes count values l = record { sized = l; read = refl; small = tt; only = λ ns n s e. e }
-
 pub going_more :
     (bytes : List ℕ) (count i : ℕ) (values rest : List ℕ) (n : ℕ) (after : List ℕ) → i < count
     → Going bytes count i values rest → Front (32 ∷ []) rest n after → Going bytes count (i + 1) (set values i n) after
@@ -62,25 +59,3 @@ pub going_stops :
     (bytes : List ℕ) (count i : ℕ) (values rest : List ℕ) → i < count → Going bytes count i values rest
     → Reads (32 ∷ []) rest None → FiguresOf count bytes None
 going_stops bytes count i values rest l g none ns k s e = none _ _ (next i ns rest (omega arith) s (g.only ns k s e))
-
--- all figures are read
-pub going_ends :
-    (bytes : List ℕ) (count i : ℕ) (values rest : List ℕ) → count ≤ i → Going bytes count i values rest → length rest ≡ 0
-    → FiguresOf count bytes (Some values)
-going_ends bytes count i values rest l g none =
-    let e = take_all i values (let h = g.sized in omega arith) in (
-      g.sized,
-      subst Small e g.small,
-      g.read
-          ∙ (ap (λ xs. spaced (take i values) ++ xs) (nil_from_length rest none)
-          ∙ (append-nil (spaced (take i values)) ∙ ap spaced e)),
-    )
-
--- something is left
-pub going_left :
-    (bytes : List ℕ) (count i : ℕ) (values rest : List ℕ) → count ≤ i → Going bytes count i values rest → 0 < length rest
-    → FiguresOf count bytes None
-going_left bytes count i values rest l g some ns k s e =
-    let none : rest ≡ spaced [] = g.only ns k s e ∙ ap spaced (drop_all i ns (omega arith)) in
-    let zero-long = ap length none in
-    omega arith

@@ -1,10 +1,11 @@
 -- A figure at the front of some bytes can be read in one way only.
-use Rattle.std.proofs.Common.{◌≡◌, ℕ, zero, suc, ◌<◌, ◌≤◌, ◌⊎◌, List, [], ◌∷◌, ◌++◌, length, get_or, take, drop, Some, None, decimal, Option, sym, refl, ap, ◌∙◌, inl, inr, add-zero, arith, Bor}
+use Rattle.std.proofs.Common.{◌≡◌, ℕ, ◌<◌, ◌≤◌, List, [], ◌∷◌, ◌++◌, length, get_or, take, drop, Some, None, decimal, Option, sym, refl, ap, ◌∙◌, inl, inr, add-zero, arith, Bor}
+use Rattle.std.proofs.lemmas.Bool.{cases_lt}
 use Rattle.std.specs.Str.Parse.{digits_value, AllDigits}
 use Rattle.std.proofs.lemmas.Str.Parse.{IsNumeralModel, digit_from_value, numerals_by_value, tells_by_index}
 use Rattle.std.proofs.lemmas.Fmt.{decimal_is_IsNumeral, decimal_digit, first_decimal, decimal-digits_value}
 use Rattle.std.proofs.lemmas.List.{take-append-drop, length-take-le, get_or-take, get_or-drop}
-use Rattle.listing.specs.Figures.{Ended, Numeric, DigitsFront, Front, Reads}
+use Rattle.listing.specs.Figures.{Ended, Numeric, DigitsFront, Parts, Front, Reads}
 
 -- digits up to what is no digit
 pub same_front :
@@ -29,12 +30,6 @@ digits_of n l = (decimal_is_IsNumeral n (omega arith)).0.1
 
 own : IsNumeralModel (λ ds. Numeric ds (length ds)) (digits_value 10)
 own = numerals_by_value _ tells_by_index
-
--- the bytes are digits, and a rest that begins with none
-pub record Parts (bs ds t : List ℕ) : Type 0 where
-  pub whole : bs ≡ ds ++ t
-  pub digits : Numeric ds (length ds)
-  pub ended : Ended t
 
 pub parts :
     (bs : List ℕ) (k : ℕ) (ds t : List ℕ) → DigitsFront bs k → ds ≡ take k bs → t ≡ drop k bs → Parts bs ds t
@@ -72,9 +67,6 @@ none_empty bs ds t p l n rest f =
     let s = (decimal_is_IsNumeral n (omega arith)).0.0 in
     omega arith
 
-zero_or_more : (n : ℕ) → (n ≡ 0) ⊎ (0 < n)
-zero_or_more n = elim n as (λ m. (m ≡ 0) ⊎ (0 < m)) [ zero ↦ inl refl | suc m ↦ inr (omega arith) ]
-
 -- of several, the first is no zero
 pub none_zero : (bs ds t : List ℕ) → Parts bs ds t → 1 < length ds → get_or ds 0 0 ≡ 48 → Reads [] bs None
 none_zero bs ds t p l z n rest f =
@@ -82,9 +74,9 @@ none_zero bs ds t p l z n rest f =
     let e = read_digits bs ds t n rest p f in
     let len = ap length e in
     let first = ap (λ xs. get_or xs 0 0) e in
-    elim (zero_or_more n) [
-      | inl q ↦ let one = ap length (decimal_digit n (omega arith)) in omega arith
-      | inr q ↦ let more = first_decimal n q (omega arith) in omega arith
+    elim (cases_lt 0 n) [
+      | inl q ↦ let more = first_decimal n q (omega arith) in omega arith
+      | inr q ↦ let one = ap length (decimal_digit n (omega arith)) in omega arith
     ]
 
 -- the value is at most 65,535

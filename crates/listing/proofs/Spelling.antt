@@ -1,39 +1,11 @@
 -- Bytes that begin with a word.
-use Rattle.std.proofs.Common.{◌≡◌, ℕ, suc, ◌+◌, Bool, true, false, cond, eqb, List, [], ◌∷◌, ◌++◌, length, get_or, drop, MatchBool, sym, refl, ap, ◌∙◌, subst, add-zero, zero-add, add-one, arith}
-use Rattle.std.proofs.lemmas.List.{append_assoc, length-append, length_push, get_or_at, drop_more}
+use Rattle.std.proofs.Common.{◌≡◌, ◌≢◌, ℕ, ◌+◌, ◌<◌, false, cond, eqb, nat_eq, List, [], ◌∷◌, ◌++◌, length, get_or, take, None, refl, sym, ap, ◌∙◌, subst, arith}
+use Rattle.std.specs.Cmp.Lexicographic.{pointwise}
+use Rattle.std.proofs.lemmas.Bool.Decides.{Decides-eqb}
+use Rattle.std.proofs.lemmas.Slice.Eq.{strip_prefix_is}
 use Rattle.listing.specs.declared.word.Word.{Word}
 use Rattle.listing.specs.declared.word.Word.TheVariants as words
-use Rattle.std.proofs.lemmas.Bool.{false≢true}
-use Rattle.listing.specs.Words.{spelled, Stands, Lacks}
-
--- codes stand where they were put
-pub append_stands : (p cs t : List ℕ) (i : ℕ) → length p ≡ i → Stands (p ++ (cs ++ t)) i cs
-append_stands p [] t i e = tt
-append_stands p (c ∷ cs) t i e =
-    let long = length-append p (c ∷ (cs ++ t)) in
-    let rest = append_stands (p ++ c ∷ []) cs t (suc i) (length_push p c ∙ omega arith) in
-    (omega arith, get_or_at p c (cs ++ t) 0 i e, subst (λ xs. Stands xs (suc i) cs) (append_assoc p (c ∷ []) (cs ++ t)) rest)
-
-stands_drop :
-    (bytes : List ℕ) (i : ℕ) (cs : List ℕ) → Stands bytes i cs → drop i bytes ≡ cs ++ drop (i + length cs) bytes
-stands_drop bytes i [] s = ap (λ k. drop k bytes) (sym (add-zero i))
-stands_drop bytes i (c ∷ cs) s =
-    let next = stands_drop bytes (suc i) cs s.2 in
-    let far : suc i + length cs ≡ i + suc (length cs) = omega arith in
-    let tail = ap (λ k. drop k bytes) (add-one i) ∙ (next ∙ ap (λ k. cs ++ drop k bytes) far) in
-    drop_more bytes i 0 s.0 ∙ (ap (λ x. x ∷ drop (i + 1) bytes) s.1 ∙ ap (λ xs. c ∷ xs) tail)
-
--- bytes that begin with codes are these and what follows
-pub stands_front : (bytes cs : List ℕ) → Stands bytes 0 cs → bytes ≡ cs ++ drop (length cs) bytes
-stands_front bytes cs s = stands_drop bytes 0 cs s ∙ ap (λ k. cs ++ drop k bytes) (zero-add (length cs))
-
--- a test for the codes of a word at the front tells whether the word stands there
-pub begins_stands :
-    (s p : List ℕ) (w : Word) (r : Bool) → p ≡ spelled w → (r ≡ true → s ≡ p ++ drop (length p) s) × ((rest : List ℕ) → s ≡ p ++ rest → r ≡ true) → MatchBool r (Stands s 0 (spelled w)) (Lacks s w)
-begins_stands s p w true e h =
-    subst (Stands s 0) e (subst (λ xs. Stands xs 0 p) (sym (h.0 refl)) (append_stands [] p (drop (length p) s) 0 refl))
-begins_stands s p w false e h =
-    λ t. false≢true (h.1 (drop (length (spelled w)) s) (stands_front s (spelled w) t ∙ ap (λ q. q ++ drop (length (spelled w)) s) (sym e)))
+use Rattle.listing.specs.Words.{spelled}
 
 -- the first two letters tell the word, by the sum of their codes
 abbrev told : ℕ → Word
@@ -45,17 +17,33 @@ told n =
 abbrev sum : List ℕ → ℕ
 sum bytes = get_or bytes 0 0 + get_or bytes 1 0
 
-at : (bytes : List ℕ) (n : ℕ) → sum bytes ≡ n → told (sum bytes) ≡ told n
-at bytes n e = ap told e
-
-stands_told : (bytes : List ℕ) (w : Word) → Stands bytes 0 (spelled w) → told (sum bytes) ≡ w
-stands_told bytes words.Sheet s = at bytes 219 (omega arith)
-stands_told bytes words.Box s = at bytes 209 (omega arith)
-stands_told bytes words.Line s = at bytes 213 (omega arith)
-stands_told bytes words.Figure s = at bytes 207 (omega arith)
-stands_told bytes words.Span s = at bytes 227 (omega arith)
-stands_told bytes words.Frame s = at bytes 216 (omega arith)
+word_told : (w : Word) (rest : List ℕ) → told (sum (spelled w ++ rest)) ≡ w
+word_told words.Sheet rest = refl
+word_told words.Box rest = refl
+word_told words.Line rest = refl
+word_told words.Figure rest = refl
+word_told words.Span rest = refl
+word_told words.Frame rest = refl
 
 -- bytes begin with one word only
-pub one_word : (bytes : List ℕ) (v w : Word) → Stands bytes 0 (spelled v) → Stands bytes 0 (spelled w) → v ≡ w
-one_word bytes v w s t = sym (stands_told bytes v s) ∙ stands_told bytes w t
+pub one_word : (v w : Word) (s t : List ℕ) → spelled v ++ s ≡ spelled w ++ t → v ≡ w
+one_word v w s t e = sym (word_told v s) ∙ ap (λ bytes. told (sum bytes)) e ∙ word_told w t
+
+-- a prefix that was sought in vain
+pub lacking :
+    (bytes p : List ℕ) (w : Word) → p ≡ spelled w → pointwise nat_eq (take (length p) bytes) p ≡ false
+    → (rest : List ℕ) → bytes ≢ spelled w ++ rest
+lacking bytes p w e none =
+    subst (λ s. (rest : List ℕ) → bytes ≢ s ++ rest) e (strip_prefix_is Decides-eqb bytes p None none)
+
+-- what holds of the word in each place holds of every word
+pub each_word :
+    (P : Word → Type 0)
+    → ((k : ℕ) → k < 6 → P (get_or (words.Sheet ∷ words.Box ∷ words.Line ∷ words.Figure ∷ words.Span ∷ words.Frame ∷ []) k words.Sheet))
+    → (w : Word) → P w
+each_word P f words.Sheet = f 0 (omega arith)
+each_word P f words.Box = f 1 (omega arith)
+each_word P f words.Line = f 2 (omega arith)
+each_word P f words.Figure = f 3 (omega arith)
+each_word P f words.Span = f 4 (omega arith)
+each_word P f words.Frame = f 5 (omega arith)

@@ -19,6 +19,12 @@ pub record DigitsFront (bytes : List ℕ) (n : ℕ) : Type 0 where
   pub digits : Numeric bytes n
   pub ended : IsInRange 48 57 (slice_index bytes n) → ⊥
 
+-- the bytes are digits, and a rest that begins with none
+pub record Parts (bytes ds rest : List ℕ) : Type 0 where
+  pub whole : bytes ≡ ds ++ rest
+  pub digits : Numeric ds (length ds)
+  pub ended : Ended rest
+
 -- the number that the digits write, if it is at most 65,535
 abbrev pub NumberOf : List ℕ → Option ℕ → Type 0
 NumberOf digits (Some n) = (digits_value 10 digits ≡ n) × (n ≤ 65535)

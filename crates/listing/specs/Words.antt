@@ -1,5 +1,6 @@
 -- How a line is taken apart: its first word, then what follows it. Assumes nothing.
-use Rattle.std.specs.Prelude.{◌≡◌, ℕ, suc, ◌<◌, List, [], ◌∷◌, length, Some, None, codes, Option, ◌≢◌, slice_index}
+use Rattle.std.specs.Prelude.{◌≡◌, ℕ, List, ◌++◌, Some, None, codes, Option, ◌≢◌}
+use Rattle.std.specs.Borrow.{Bor}
 use Rattle.raster.specs.declared.shape.Shape.TheVariants as shape
 use Rattle.listing.specs.declared.line.Line.{Line}
 use Rattle.listing.specs.declared.line.Line.TheVariants as line
@@ -25,19 +26,10 @@ word_of (line.Shape n (shape.Figure c) ink) = words.Figure
 word_of (line.Span s n from to ink) = words.Span
 word_of (line.Frame f) = words.Frame
 
--- from place i on the bytes are these codes
-abbrev pub Stands : List ℕ → ℕ → List ℕ → Type 0
-Stands bytes i [] = Unit {0}
-Stands bytes i (c ∷ cs) = (i < length bytes) × (slice_index bytes i ≡ c) × Stands bytes (suc i) cs
-
--- the bytes do not begin with the word
-abbrev pub Lacks : List ℕ → Word → Type 0
-Lacks bytes w = Stands bytes 0 (spelled w) → ⊥
-
--- a word is read exactly if the bytes begin with one
-abbrev pub First : List ℕ → Option Word → Type 0
-First bytes (Some w) = Stands bytes 0 (spelled w)
-First bytes None = Lacks bytes words.Sheet × Lacks bytes words.Box × Lacks bytes words.Line × Lacks bytes words.Figure × Lacks bytes words.Span × Lacks bytes words.Frame
+-- a word and the rest are read exactly if the bytes begin with a word
+abbrev pub First : List ℕ → Option (Word × Bor (List ℕ)) → Type 0
+First bytes (Some p) = bytes ≡ spelled p.0 ++ p.1.now
+First bytes None = (w : Word) (rest : List ℕ) → bytes ≢ spelled w ++ rest
 
 -- a line is read after its word exactly if the bytes there are the text of its figures
 abbrev pub After : Word → List ℕ → Option Line → Type 0

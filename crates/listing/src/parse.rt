@@ -1,6 +1,5 @@
-ghost use Rattle.std.specs.Prelude.{◌≡◌, length, MatchBool};
 ghost use Rattle.listing.specs.Text.{Parsed};
-ghost use Rattle.listing.specs.Words.{spelled, Stands, Lacks, After, First};
+ghost use Rattle.listing.specs.Words.{First, After};
 
 use crate::figures::figures;
 use crate::line::Line;
@@ -11,62 +10,20 @@ use raster::shape::{Cell, Ends, Rect, Shape};
 pub fn parse(bytes: &[u8]) -> Option<Line>
     ensures { Parsed bytes.now result }
 {
-    let word = first_word(bytes)?;
-    line_after(word, &bytes[letters(word)..])
+    let (word, rest) = first_word(bytes)?;
+    line_after(word, rest)
 }
 
-/// How the word is spelled.
-fn spelling(word: Word) -> &'static [u8]
-    ensures { result.now ≡ spelled word }
-{
-    match word {
-        Word::Sheet => b"sheet",
-        Word::Box => b"box",
-        Word::Line => b"line",
-        Word::Figure => b"figure",
-        Word::Span => b"span",
-        Word::Frame => b"frame",
-    }
-}
-
-/// Whether the bytes begin with the word.
-fn begins(bytes: &[u8], word: Word) -> bool
-    ensures { MatchBool result (Stands bytes.now 0 (spelled word)) (Lacks bytes.now word) }
-{
-    bytes.starts_with(spelling(word))
-}
-
-/// The word that the bytes begin with.
-fn first_word(bytes: &[u8]) -> Option<Word>
+/// The word that the bytes begin with, and what follows it.
+fn first_word(bytes: &[u8]) -> Option<(Word, &[u8])>
     ensures { First bytes.now result }
 {
-    if begins(bytes, Word::Sheet) {
-        Some(Word::Sheet)
-    } else if begins(bytes, Word::Box) {
-        Some(Word::Box)
-    } else if begins(bytes, Word::Line) {
-        Some(Word::Line)
-    } else if begins(bytes, Word::Figure) {
-        Some(Word::Figure)
-    } else if begins(bytes, Word::Span) {
-        Some(Word::Span)
-    } else if begins(bytes, Word::Frame) {
-        Some(Word::Frame)
-    } else {
-        None
+    for word in Word::ALL {
+        if let Some(rest) = bytes.strip_prefix(word.spelling()) {
+            return Some((word, rest));
+        }
     }
-}
-
-/// How many letters the word has.
-fn letters(word: Word) -> usize
-    ensures { result ≡ length (spelled word) }
-{
-    match word {
-        Word::Box => 3,
-        Word::Line | Word::Span => 4,
-        Word::Sheet | Word::Frame => 5,
-        Word::Figure => 6,
-    }
+    None
 }
 
 /// The line that begins with the word, of which the bytes are the figures.

@@ -1,6 +1,14 @@
 use listing::line::Line;
 use listing::parse::parse;
 use raster::shape::{Cell, Ends, Rect, Shape};
+use std::process::Abort;
+
+/// Each text is read as its line.
+fn all_taken(rt: &impl Abort, cases: &[(&[u8], Line)]) {
+    for (text, line) in cases {
+        assert!(rt; parse(text) == Some(*line));
+    }
+}
 
 #[test]
 fn sheet(rt: HostRuntime) {
@@ -8,62 +16,58 @@ fn sheet(rt: HostRuntime) {
         width: 256,
         height: 0,
     };
-    assert!(rt; parse(b"sheet 256 0") == Some(line));
+    all_taken(&rt, &[(b"sheet 256 0", line)]);
 }
 
 #[test]
 fn shapes(rt: HostRuntime) {
-    let shape = Shape::Box(Rect {
+    let rect = Rect {
         x: 1,
         y: 20,
         w: 300,
         h: 4000,
-    });
-    let line = Line::Shape {
-        number: 7,
-        shape,
-        ink: 15,
     };
-    assert!(rt; parse(b"box 7 1 20 300 4000 15") == Some(line));
-    let shape = Shape::Line(Ends {
+    let ends = Ends {
         x0: 1,
         y0: 2,
         x1: 3,
         y1: 4,
-    });
-    let line = Line::Shape {
-        number: 0,
-        shape,
-        ink: 5,
     };
-    assert!(rt; parse(b"line 0 1 2 3 4 5") == Some(line));
-    let shape = Shape::Figure(Cell {
+    let cell = Cell {
         x: 8,
         y: 16,
         glyph: 10,
-    });
-    let line = Line::Shape {
-        number: 255,
-        shape,
-        ink: 1,
     };
-    assert!(rt; parse(b"figure 255 8 16 10 1") == Some(line));
+    let placed = |number, shape, ink| Line::Shape { number, shape, ink };
+    all_taken(
+        &rt,
+        &[
+            (b"box 7 1 20 300 4000 15", placed(7, Shape::Box(rect), 15)),
+            (b"line 0 1 2 3 4 5", placed(0, Shape::Line(ends), 5)),
+            (b"figure 255 8 16 10 1", placed(255, Shape::Figure(cell), 1)),
+        ],
+    );
 }
 
 #[test]
 fn span_and_frame(rt: HostRuntime) {
-    let line = Line::Span {
+    let span = Line::Span {
         number: 3,
         shape: 7,
         from: 10,
         to: 20,
         ink: 2,
     };
-    assert!(rt; parse(b"span 3 7 10 20 2") == Some(line));
-    assert!(rt; parse(b"frame 12") == Some(Line::Frame { frame: 12 }));
+    all_taken(
+        &rt,
+        &[
+            (b"span 3 7 10 20 2", span),
+            (b"frame 12", Line::Frame { frame: 12 }),
+        ],
+    );
 }
 
 #[test]
 fn largest_figure(rt: HostRuntime) {
-    assert!(rt; parse(b"frame 65535") == Some(Line::Frame { frame: 65535 }));
+    all_taken(&rt, &[(b"frame 65535", Line::Frame { frame: 65535 })]);
 }

@@ -9,10 +9,14 @@ use Rattle.shape_list.specs.declared.fault.Fault.{Fault}
 use Rattle.shape_list.specs.declared.fault.Fault.TheVariants as fault
 
 -- a record's word for the kind of a shape
+abbrev pub kind_word : Shape → List ℕ
+kind_word (shape.Box b) = codes "box"
+kind_word (shape.Line l) = codes "line"
+kind_word (shape.Figure f) = codes "figure"
+
+-- the word between two spaces
 abbrev pub kind_text : Shape → List ℕ
-kind_text (shape.Box b) = codes " box "
-kind_text (shape.Line l) = codes " line "
-kind_text (shape.Figure f) = codes " figure "
+kind_text s = codes " " ++ (kind_word s ++ codes " ")
 
 -- the record of line k: shape n, with its ink, covers p pixels
 abbrev pub shape_text : ℕ → ℕ → Shape → ℕ → ℕ → List ℕ

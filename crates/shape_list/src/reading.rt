@@ -10,10 +10,7 @@ use listing::parse::parse;
 pub fn start(bytes: &[u8]) -> Result<ShapeList, Fault>
     ensures { Started bytes.now result }
 {
-    let Some(line) = parse(bytes) else {
-        return Err(Fault::Form);
-    };
-    let Line::Sheet { width, height } = line else {
+    let Line::Sheet { width, height } = parse(bytes).ok_or(Fault::Form)? else {
         return Err(Fault::Form);
     };
     Ok(ShapeList::new(width, height)?)
@@ -44,9 +41,7 @@ fn apply(list: &mut ShapeList, line: Line) -> Result<(), Fault>
 pub fn take(list: &mut ShapeList, bytes: &[u8]) -> Result<Line, Fault>
     ensures { Taken (book list.old) bytes.now result (book list.new) }
 {
-    let Some(line) = parse(bytes) else {
-        return Err(Fault::Form);
-    };
+    let line = parse(bytes).ok_or(Fault::Form)?;
     apply(list, line)?;
     Ok(line)
 }

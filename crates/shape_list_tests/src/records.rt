@@ -29,9 +29,7 @@ fn lines(rt: HostRuntime) -> Result<(), Fail> {
         (5, b"frame 3", 0, "5 frame 3"),
     ];
     for (k, bytes, pixels, text) in cases {
-        let Some(line) = parse(bytes) else {
-            return Err(Fail::new("not a line"));
-        };
+        let line = parse(bytes).ok_or("not a line")?;
         assert_eq!(rt; line_record(rt.alloc(), k, line, pixels)?.as_str(), text);
     }
     Ok(())
@@ -52,21 +50,15 @@ fn faults(rt: HostRuntime) -> Result<(), Fail> {
 
 #[test]
 fn letters(rt: HostRuntime) {
-    let mut ink = 0;
-    for letter in b".123456789abcdef." {
+    for (ink, letter) in (0..=16).zip(b".123456789abcdef.") {
         assert_eq!(rt; ink_letter(ink), *letter);
-        ink = ink.saturating_add(1);
     }
 }
 
 #[test]
 fn rows(rt: HostRuntime) -> Result<(), Fail> {
     let font = Font::built_in();
-    let list = list_of(
-        &rt,
-        b"sheet 3 2",
-        &[b"box 1 1 0 2 1 5", b"box 2 0 1 1 1 15"],
-    )?;
+    let list = list_of(b"sheet 3 2", &[b"box 1 1 0 2 1 5", b"box 2 0 1 1 1 15"])?;
     let mut memory = [7u8; 6];
     let mut surface = ByteSurface::new(&mut memory, 3, 2);
     paint_whole(&list.scene(&font), &mut surface);

@@ -1,4 +1,4 @@
-ghost use Rattle.std.specs.Prelude.{◌≡◌, MatchResult};
+ghost use Rattle.std.specs.Prelude.{◌≡◌, Some, None};
 ghost use Rattle.raster.specs.Refusals.{number};
 ghost use Rattle.shape_list.specs.declared.fault.Fault.TheVariants.{Form, Refused};
 
@@ -6,30 +6,23 @@ use raster::font::Font;
 use shape_list::fault::Fault;
 use shape_list::list::ShapeList;
 use shape_list::reading::{start, take};
-use std::process::Abort;
 use std::test::Fail;
 
-/// Said of a line that is no line of a sheet, or not in its place.
-pub const FORM: u8 = 1;
-
-/// How a line was answered: 0 if it was taken in, `FORM`, or the number of its refusal.
-pub fn answer<T: Drop>(res: Result<T, Fault>) -> u8
-    ensures { MatchResult res (λ _. result ≡ 0) (λ e. elim e [ Form ↦ result ≡ 1 | Refused refusal ↦ result ≡ number refusal ]) }
+/// The number of the refusal, if the line was one of a sheet and in its place.
+pub fn number(fault: Fault) -> Option<u8>
+    ensures { elim fault [ Form ↦ result ≡ None | Refused refusal ↦ result ≡ Some (number refusal) ] }
 {
-    match res {
-        Ok(_) => 0,
-        Err(Fault::Form) => FORM,
-        Err(Fault::Refused(refusal)) => refusal.number(),
+    match fault {
+        Fault::Form => None,
+        Fault::Refused(refusal) => Some(u8::from(refusal)),
     }
 }
 
 /// The list that the lines make, each of which has to be taken in.
-pub fn list_of(rt: &impl Abort, first: &[u8], lines: &[&[u8]]) -> Result<ShapeList, Fail> {
-    let Ok(mut list) = start(first) else {
-        return Err(Fail::new("the first line is refused"));
-    };
+pub fn list_of(first: &[u8], lines: &[&[u8]]) -> Result<ShapeList, Fail> {
+    let mut list = start(first)?;
     for line in lines {
-        assert_eq!(rt; answer(take(&mut list, line)), 0);
+        take(&mut list, line)?;
     }
     Ok(list)
 }
@@ -38,9 +31,5 @@ pub fn list_of(rt: &impl Abort, first: &[u8], lines: &[&[u8]]) -> Result<ShapeLi
 pub fn inks(list: ShapeList) -> [u8; 6] {
     let font = Font::built_in();
     let scene = list.scene(&font);
-    let mut inks = [0; 6];
-    for i in 0..6u16 {
-        inks[i as usize] = scene.ink_at(i % 3, i / 3);
-    }
-    inks
+    [(0, 0), (1, 0), (2, 0), (0, 1), (1, 1), (2, 1)].map(|(x, y)| scene.ink_at(x, y))
 }

@@ -1,5 +1,3 @@
-use Rattle.std.proofs.Common.{drop, ap, ◌∙◌}
-use Rattle.std.proofs.lemmas.List.{take_rest}
 use Rattle.listing.proofs.Lines.{no_word, parsed}
 use Rattle.listing.proofs.parse.parse.Goals as goal
 
@@ -7,7 +5,4 @@ pub returns-in_err-word : goal.returns-in_err-word
 returns-in_err-word c = rw c.from_residual.ensures (no_word _ c.in_err-word.ensures)
 
 pub returns : goal.returns
-returns c =
-    let bytes = c.args.bytes.now in
-    parsed bytes c.in_ok-word.word _ c.line_after.result c.in_ok-word.ensures
-    (take_rest bytes c.letters.result ∙ ap (λ k. drop k bytes) c.letters.ensures) c.line_after.ensures
+returns c = parsed c.args.bytes.now _ _ c.line_after.result c.in_ok-word.ensures c.line_after.ensures
