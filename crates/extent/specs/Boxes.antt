@@ -1,8 +1,6 @@
--- The plane box of a shape. Assumes nothing.
+-- The plane box of a box of pixels. Assumes nothing.
 use Rattle.std.specs.Prelude.{◌≡◌, ◌+◌, ◌<◌, ◌≤◌, Some, None, Option}
 use Rattle.raster.specs.declared.shape.Bounds.{Bounds}
-use Rattle.raster.specs.declared.shape.Shape.{Shape}
-use Rattle.raster.specs.Shapes.{bounds_of}
 use Rattle.extent.specs.declared.plane_box.PlaneBox.{PlaneBox}
 
 -- a bounding box with a pixel, within 256 columns and rows
@@ -19,7 +17,7 @@ pub record Edges (b : Bounds) (e : PlaneBox) : Type 0 where
   pub right : e.right + 1 ≡ b.right
   pub bottom : e.bottom + 1 ≡ b.bottom
 
--- the bounding box of a shape becomes a plane box where it can
-abbrev pub BoxOf : Shape → Option PlaneBox → Type 0
-BoxOf s (Some e) = Within (bounds_of s) × Edges (bounds_of s) e
-BoxOf s None = Within (bounds_of s) → ⊥
+-- a box becomes a plane box exactly if it has a pixel and lies within 256 columns and rows
+abbrev pub IsPlaneBox : Bounds → Option PlaneBox → Type 0
+IsPlaneBox b (Some e) = Within b × Edges b e
+IsPlaneBox b None = Within b → ⊥

@@ -55,6 +55,7 @@ pub trait Measured: Extent {
         ensures bound { result ≤ 65536 };
 
     /// By how much its join with another is larger.
+    // Each kind writes this: a provided body would let the join go, and not every kind is `Drop`.
     fn growth(&self, other: &Self) -> u32
         ensures { result + measure self.now ≡ measure (Self.Extent.joined self.now other.now) };
 

@@ -64,7 +64,7 @@ impl Measured for Interval {
     ghost growing = { Prim.search rules };
 
     fn size(&self) -> u32 {
-        (self.last as u32 + 1).saturating_sub(self.first as u32)
+        (u32::from(self.last) + 1).saturating_sub(self.first.into())
     }
 
     fn growth(&self, other: &Interval) -> u32 {

@@ -1,11 +1,13 @@
-ghost use Rattle.std.specs.Prelude.{◌≡◌, ◌*◌, ◌≤◌, min, max, ◌&&◌, nat_le};
+ghost use Rattle.std.specs.Prelude.{◌≡◌, ◌*◌, min, max, ◌&&◌, nat_le};
 ghost use Rattle.extent.specs.Axis.{spans, touches, extent_of};
-ghost use Rattle.extent.specs.Boxes.{BoxOf};
+ghost use Rattle.extent.specs.Boxes.{IsPlaneBox};
+ghost use Rattle.raster.specs.Shapes.{bounds_of};
 ghost use Rattle.std.proofs.Common.{rules};
 ghost use Rattle.extent.specs.AxisLemmas.{area_grows};
 
 use crate::extent::{Extent, Measured};
-use raster::shape::Shape;
+use crate::interval::Interval;
+use raster::shape::{Bounds, Shape};
 
 /// A pixel of a sheet.
 #[derive(Clone, Copy, PartialEq, Eq)]
@@ -21,6 +23,28 @@ pub struct PlaneBox {
     pub top: u8,
     pub right: u8,
     pub bottom: u8,
+}
+
+impl PlaneBox {
+    /// The columns from left to right.
+    fn across(&self) -> Interval
+        ensures { (result.first ≡ self.now.left) × (result.last ≡ self.now.right) }
+    {
+        Interval {
+            first: self.left.into(),
+            last: self.right.into(),
+        }
+    }
+
+    /// The rows from top to bottom.
+    fn down(&self) -> Interval
+        ensures { (result.first ≡ self.now.top) × (result.last ≡ self.now.bottom) }
+    {
+        Interval {
+            first: self.top.into(),
+            last: self.bottom.into(),
+        }
+    }
 }
 
 impl Extent for PlaneBox {
@@ -51,13 +75,11 @@ impl Extent for PlaneBox {
     ghost holds_more = { Prim.search rules };
 
     fn covers(&self, other: &PlaneBox) -> bool {
-        (self.left <= other.left && other.right <= self.right)
-            && (self.top <= other.top && other.bottom <= self.bottom)
+        self.across().covers(&other.across()) && self.down().covers(&other.down())
     }
 
     fn meets(&self, other: &PlaneBox) -> bool {
-        (self.left <= other.right && other.left <= self.right)
-            && (self.top <= other.bottom && other.top <= self.bottom)
+        self.across().meets(&other.across()) && self.down().meets(&other.down())
     }
 
     fn join(&self, other: &PlaneBox) -> PlaneBox {
@@ -70,17 +92,8 @@ impl Extent for PlaneBox {
     }
 
     fn holds(&self, spot: &Pixel) -> bool {
-        (self.left as u16 <= spot.x && spot.x <= self.right as u16)
-            && (self.top as u16 <= spot.y && spot.y <= self.bottom as u16)
+        self.across().holds(&spot.x) && self.down().holds(&spot.y)
     }
-}
-
-/// How many numbers there are from the first to the last.
-fn length(first: u8, last: u8) -> u32
-    ensures value { result ≡ extent_of first last }
-    ensures bound { result ≤ 256 }
-{
-    (last as u32 + 1).saturating_sub(first as u32)
 }
 
 impl Measured for PlaneBox {
@@ -89,28 +102,36 @@ impl Measured for PlaneBox {
     ghost growing = { λ a b. area_grows a.left a.right b.left b.right a.top a.bottom b.top b.bottom };
 
     fn size(&self) -> u32 {
-        length(self.left, self.right) * length(self.top, self.bottom)
+        self.across().size() * self.down().size()
     }
 
+    #[tactic(auto, using(crate::specs::AxisLemmas::area_grows))]
     fn growth(&self, other: &PlaneBox) -> u32 {
         self.join(other).size() - self.size()
     }
 }
 
 impl PlaneBox {
-    /// The bounding box of a shape, if it has a pixel and lies within 256 columns and rows.
-    pub fn of_shape(shape: Shape) -> Option<PlaneBox>
-        ensures { BoxOf shape result }
+    /// The plane box of a box of pixels, if it has a pixel and lies within 256 columns and rows.
+    // An `Option`, and no `TryFrom`: there is nothing to say of a box that does not become one.
+    pub fn of_bounds(bounds: Bounds) -> Option<PlaneBox>
+        ensures { IsPlaneBox bounds result }
     {
-        let b = shape.bounds();
-        if b.left >= b.right || b.right > 256 || b.top >= b.bottom || b.bottom > 256 {
+        if bounds.left >= bounds.right || bounds.top >= bounds.bottom {
             return None;
         }
         Some(PlaneBox {
-            left: b.left as u8,
-            top: b.top as u8,
-            right: (b.right - 1) as u8,
-            bottom: (b.bottom - 1) as u8,
+            left: u8::try_from(bounds.left).ok()?,
+            top: u8::try_from(bounds.top).ok()?,
+            right: u8::try_from(bounds.right - 1).ok()?,
+            bottom: u8::try_from(bounds.bottom - 1).ok()?,
         })
+    }
+
+    /// The bounding box of a shape, if it has a pixel and lies within 256 columns and rows.
+    pub fn of_shape(shape: Shape) -> Option<PlaneBox>
+        ensures { IsPlaneBox (bounds_of shape) result }
+    {
+        PlaneBox::of_bounds(shape.bounds())
     }
 }

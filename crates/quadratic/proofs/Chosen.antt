@@ -1,7 +1,7 @@
 -- The computed choices are those of the rule, and the rule allows no other. Assumes nothing.
 use Rattle.std.proofs.Common.{◌≡◌, ℕ, zero, suc, ◌+◌, ◌*◌, ◌/◌, ◌%◌, ◌<◌, ◌≤◌, cond, eqb, ltb, List, get_or, Some, None, Option, refl, ap, subst, subst₂, inl, inr, arith}
 use Rattle.std.proofs.lemmas.Bool.{cases_lt, cases_order, eq-eqb, ne_eqb, eqb-true, eqb-false, ltb-true, ltb-false, cond_both}
-use Rattle.quadratic.specs.Choosing.{group_for, pull, Next, NextOf, Pair, at_most, below, Seeds}
+use Rattle.quadratic.specs.Choosing.{pull, Next, NextOf, Pair, at_most, below, Seeds}
 use Rattle.quadratic.specs.Split.{remaining, letter_for, worse, keep_worse, seeds_before, keep_pulled, next_before}
 
 -- a number below i + 1 is below i, or is i
@@ -25,13 +25,6 @@ module _ (ga gb sa sb na nb : ℕ) where
       let f = ne_eqb (na + remaining na nb) 3 n in
       let t = eq-eqb (nb + remaining na nb) 3 e in
       simp (f, t)
-
-  pub letter_picked : (na + remaining na nb ≡ 3 → ⊥) → (nb + remaining na nb ≡ 3 → ⊥) → letter_for ga gb sa sb na nb ≡ group_for ga gb sa sb na nb
-  unfolding letter_for
-  letter_picked n m =
-      let f = ne_eqb (na + remaining na nb) 3 n in
-      let g = ne_eqb (nb + remaining na nb) 3 m in
-      simp (f, g)
 
 module _ (ga gb ls : List ℕ) where
   -- no other entry goes next

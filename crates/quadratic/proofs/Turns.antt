@@ -29,14 +29,18 @@ module _ {E : Type 0} (size : E → ℕ) (join : E → E → E) where
         let b = growth_is g.b (x i) y gb is grown-b in
         cc
 
-    pub given_a : (k : E) → k ≡ join g.a y → l ≡ 65 → ◌≡◌ {A = Groups E} (record { letters = set g.letters i 65; a = k; b = g.b; na = g.na + 1; nb = g.nb }) (given size join x g i (goes_to_a size join x g i))
+    pub given_a : (ls : List ℕ) (k : E) (n : ℕ) → ls ≡ set g.letters i l → k ≡ join g.a y → n ≡ g.na + 1 → l ≡ 65
+        → ◌≡◌ {A = Groups E} (record { letters = ls; a = k; b = g.b; na = n; nb = g.nb }) (given size join x g i (goes_to_a size join x g i))
     unfolding given
-    given_a k h e =
-        let mk : E → Groups E = λ z. record { letters = set g.letters i 65; a = z; b = g.b; na = g.na + 1; nb = g.nb } in
-        ap mk (h ∙ ap (join g.a) is) ∙ ap (given size join x g i) (sym (eq-eqb l 65 e) ∙ goes_is)
+    given_a ls k n c h m e =
+        let mk : List ℕ → E → ℕ → Groups E = λ c z m. record { letters = c; a = z; b = g.b; na = m; nb = g.nb } in
+        let now : mk ls k n ≡ mk (set g.letters i 65) (join g.a (x i)) (g.na + 1) = cc in
+        now ∙ ap (given size join x g i) (sym (eq-eqb l 65 e) ∙ goes_is)
 
-    pub given_b : (k : E) → k ≡ join g.b y → (l ≡ 65 → ⊥) → ◌≡◌ {A = Groups E} (record { letters = set g.letters i 66; a = g.a; b = k; na = g.na; nb = g.nb + 1 }) (given size join x g i (goes_to_a size join x g i))
+    pub given_b : (ls : List ℕ) (k : E) (n : ℕ) → ls ≡ set g.letters i l → k ≡ join g.b y → n ≡ g.nb + 1 → l ≡ 66
+        → ◌≡◌ {A = Groups E} (record { letters = ls; a = g.a; b = k; na = g.na; nb = n }) (given size join x g i (goes_to_a size join x g i))
     unfolding given
-    given_b k h e =
-        let mk : E → Groups E = λ z. record { letters = set g.letters i 66; a = g.a; b = z; na = g.na; nb = g.nb + 1 } in
-        ap mk (h ∙ ap (join g.b) is) ∙ ap (given size join x g i) (sym (ne_eqb l 65 e) ∙ goes_is)
+    given_b ls k n c h m e =
+        let mk : List ℕ → E → ℕ → Groups E = λ c z m. record { letters = c; a = g.a; b = z; na = g.na; nb = m } in
+        let now : mk ls k n ≡ mk (set g.letters i 66) (join g.b (x i)) (g.nb + 1) = cc in
+        now ∙ ap (given size join x g i) (sym (ne_eqb l 65 (λ z. omega arith)) ∙ goes_is)

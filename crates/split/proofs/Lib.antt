@@ -1,1 +1,4 @@
-pub mod Filling
+pub mod Letters
+pub mod Made
+pub mod Next
+pub mod Tables

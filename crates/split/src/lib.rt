@@ -2,6 +2,8 @@
 #![tactic(auto)]
 
 pub mod choose;
-mod extents;
-mod groups;
+mod group;
+pub mod letter;
+mod nine;
+mod sharing;
 pub mod split;

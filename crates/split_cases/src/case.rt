@@ -3,42 +3,79 @@ use extent::extent::Measured;
 use extent::interval::Interval;
 use extent::plane_box::PlaneBox;
 use split::split::split;
-use std::str::SplitWhitespace;
+use std::fmt;
+use std::str::{FromStr, SplitWhitespace};
 
-/// An extent that a line can hold.
-trait Written: Sized {
+/// The number that the next word writes.
+fn number<N: FromStr>(words: &mut SplitWhitespace) -> Option<N>
+where
+    N::Err: Drop,
+{
+    words.next()?.parse().ok()
+}
+
+/// A kind of extent that a line can hold.
+trait Written: Measured + Copy {
+    /// What stands in a row before it is read.
+    const BLANK: Self;
+
     /// The extent that the next words write.
     fn read(words: &mut SplitWhitespace) -> Option<Self>;
 }
 
 impl Written for PlaneBox {
+    const BLANK: PlaneBox = PlaneBox {
+        left: 0,
+        top: 0,
+        right: 0,
+        bottom: 0,
+    };
+
     fn read(words: &mut SplitWhitespace) -> Option<PlaneBox> {
-        let left = words.next()?.parse::<u8>().ok()?;
-        let top = words.next()?.parse::<u8>().ok()?;
-        let right = words.next()?.parse::<u8>().ok()?;
-        let bottom = words.next()?.parse::<u8>().ok()?;
         Some(PlaneBox {
-            left,
-            top,
-            right,
-            bottom,
+            left: number(words)?,
+            top: number(words)?,
+            right: number(words)?,
+            bottom: number(words)?,
         })
     }
 }
 
 impl Written for Interval {
+    const BLANK: Interval = Interval { first: 0, last: 0 };
+
     fn read(words: &mut SplitWhitespace) -> Option<Interval> {
-        let first = words.next()?.parse::<u16>().ok()?;
-        let last = words.next()?.parse::<u16>().ok()?;
-        Some(Interval { first, last })
+        Some(Interval {
+            first: number(words)?,
+            last: number(words)?,
+        })
+    }
+}
+
+/// The letters by which nine extents are shared out.
+#[derive(Drop)]
+pub struct Letters([u8; 9]);
+
+impl fmt::Display for Letters {
+    fn fmt<W: fmt::Write>(&self, f: &mut fmt::Formatter<W>) -> fmt::Result {
+        for letter in self.0 {
+            write!(f, "{}", letter as char)?;
+        }
+        Ok(())
+    }
+}
+
+/// An entry of a row, before it is read.
+fn blank<M: Written>() -> Entry<M> {
+    Entry {
+        extent: M::BLANK,
+        code: 0,
     }
 }
 
 /// The letters of the nine extents that the words write, if they write no more; the first eight go into the row.
-fn shared_out<M: Measured + Copy + Written>(
-    words: &mut SplitWhitespace,
-    row: &mut [Entry<M>],
-) -> Option<[u8; 9]> {
+// The row is the caller's: for a kind of any size it cannot be proved that eight entries fit into memory.
+fn shared_out<M: Written>(row: &mut [Entry<M>], words: &mut SplitWhitespace) -> Option<Letters> {
     for place in row.iter_mut() {
         place.extent = M::read(words)?;
     }
@@ -46,38 +83,15 @@ fn shared_out<M: Measured + Copy + Written>(
     if words.next().is_some() {
         return None;
     }
-    Some(split(row, last))
+    Some(Letters(split(row, last)))
 }
 
-/// A row of eight boxes, before they are read.
-const BOXES: [Entry<PlaneBox>; 8] = [Entry {
-    extent: PlaneBox {
-        left: 0,
-        top: 0,
-        right: 0,
-        bottom: 0,
-    },
-    code: 0,
-}; 8];
-
-/// A row of eight intervals, before they are read.
-const INTERVALS: [Entry<Interval>; 8] = [Entry {
-    extent: Interval { first: 0, last: 0 },
-    code: 0,
-}; 8];
-
 /// The letters of a line's nine extents: `boxes` or `intervals`, and then their ends.
-pub fn letters_of(line: &str) -> Option<[u8; 9]> {
+pub fn letters_of(line: &str) -> Option<Letters> {
     let mut words = line.split_whitespace();
     match words.next()? {
-        "boxes" => {
-            let mut row = BOXES;
-            shared_out(&mut words, &mut row)
-        }
-        "intervals" => {
-            let mut row = INTERVALS;
-            shared_out(&mut words, &mut row)
-        }
+        "boxes" => shared_out::<PlaneBox>(&mut [blank(); 8], &mut words),
+        "intervals" => shared_out::<Interval>(&mut [blank(); 8], &mut words),
         _ => None,
     }
 }
