@@ -1,5 +1,5 @@
 -- The child of an inner node: where it stands, and which rows are its own. Assumes nothing.
-use Rattle.std.proofs.Common.{◌≡◌, ℕ, suc, ◌+◌, ◌*◌, ◌<◌, List, [], ◌∷◌, ◌++◌, length, get_or, take, drop, Some, None, Option, sym, ap, ◌∙◌, subst, arith}
+use Rattle.std.proofs.Common.{◌≡◌, ℕ, suc, ◌+◌, ◌*◌, ◌<◌, List, [], ◌∷◌, ◌++◌, length, get_or, take, drop, sym, ap, ◌∙◌, subst, arith}
 use mathlib.Core.List.Permᴰ
 use mathlib.Core.List.{Permᴰ}
 use lib.Seq.{split_at}
@@ -7,7 +7,7 @@ use Rattle.std.specs.List.{flat_map, AllByRecursion}
 use Rattle.extent.specs.declared.entry.Entry.{Entry}
 use Rattle.quadratic.proofs.Perms.{perm_same}
 use Rattle.node_rows.specs.Rows.{row, under, used}
-use Rattle.node_rows.specs.Nodes.{Ready, Placed, Live, Distinct, halves}
+use Rattle.node_rows.specs.Nodes.{Ready, Placed, Live, Distinct}
 use Rattle.node_rows.proofs.RowSet.{get_or_row, count_row}
 use Rattle.node_rows.proofs.Separate.{all_unappend, all_unjoined, distinct_joined}
 
@@ -68,12 +68,3 @@ live_count {E} {places} {counts} q ready live = let c = count_row places counts 
 
 pub live_both : {E : Type 0} (f : ℕ → List (Entry E)) (k r s : ℕ) → AllByRecursion (Live f) (flat_map (used f k) (r ∷ s ∷ [])) → Live f r × Live f s
 live_both f k r s h = let a = all_unjoined (Live f) (used f k) (r ∷ s ∷ []) h in (a.0.0, a.1.0.0)
-
--- an inner node has an entry, and so a child
-pub inner_count : {E : Type 0} {places : List (Entry E)} {counts : List ℕ} {h at : ℕ} → Ready places counts → Placed (row places counts) h at → 0 < h → 0 < get_or counts at 0
-inner_count {E} {places} {counts} {h} {at} ready placed some = let c = count_row places counts ready at placed.there in let l = placed.full some in omega arith
-
--- the row of a node that may have been split is in use
-pub live_own : {E : Type 0} (f : ℕ → List (Entry E)) (k r : ℕ) (o : Option ℕ) → AllByRecursion (Live f) (flat_map (used f k) (halves r o)) → Live f r
-live_own f k r None h = h.0
-live_own f k r (Some s) h = h.0

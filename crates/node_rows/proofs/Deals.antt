@@ -1,5 +1,5 @@
 -- The entries of a row that are shared out. Assumes nothing.
-use Rattle.std.proofs.Common.{◌≡◌, ℕ, ◌+◌, ◌*◌, ◌<◌, ◌≤◌, Bool, true, false, cond, eqb, List, [], ◌∷◌, ◌++◌, length, get_or, take, drop, set, Some, None, sym, refl, ap, ◌∙◌, subst, inl, inr, arith, length-append, length-drop, length-set, length-take, get_or-drop, take_all, get_or-set_other}
+use Rattle.std.proofs.Common.{◌≡◌, ℕ, ◌+◌, ◌*◌, ◌<◌, ◌≤◌, Bool, true, false, cond, eqb, List, [], ◌∷◌, ◌++◌, length, get_or, take, drop, set, Some, None, sym, refl, ap, ◌∙◌, subst, inl, inr, arith, length-append, length-drop, length-take, get_or-drop, take_all, get_or-set_other}
 use Rattle.std.proofs.lemmas.List.{take_more, append-nil, length_push}
 use Rattle.std.proofs.lemmas.Bool.{cases_eq, eq-eqb, ne_eqb, lt-ltb, le-ltb}
 use Rattle.extent.specs.declared.entry.Entry.{Entry}
@@ -10,7 +10,7 @@ use Rattle.quadratic.proofs.Parts.{part_more, part_count}
 use Rattle.guttman.specs.Trees.{One, Two, add}
 use Rattle.node_rows.specs.Rows.{row}
 use Rattle.node_rows.specs.Nodes.{extents_in, Ready, Pushed, Laid, Scattered, SetUp, Dealt, spare, idle}
-use Rattle.node_rows.proofs.RowSet.{row_count, count_row, pushed_here, pushed_other, pushed_ready, pushed_count, pushed_untouched}
+use Rattle.node_rows.proofs.RowSet.{count_row, pushed_here, pushed_other, pushed_ready, pushed_count, pushed_untouched}
 use Rattle.node_rows.proofs.Spares.{spare_off, spare_set, spare_kept}
 
 part_short : {X : Type 0} (t : Bool) (ls : List ℕ) (xs : List X) → length (part t ls xs) ≤ length ls
@@ -150,13 +150,6 @@ module _ {E : Type 0} (size : E → ℕ) (join : E → E → E) where
 
     pub split_nine : length ls ≡ 9
     split_nine = ap length letters ∙ (split9_fair size join (λ i. get_or (extents_in (row places counts at)) i x.extent)).0
-
-    pub split_ready : Ready places (set counts at 0)
-    split_ready = record {
-      long = ready.long;
-      wide = length-set counts at 0 ∙ ready.wide;
-      within = row_count counts at 0 (let w = ready.wide in omega arith) (omega arith) ready.within;
-    }
 
     module _ (places₁ : List (Entry E)) (counts₁ : List ℕ) (s : Scattered places (set counts at 0) places₁ counts₁ at to 8 ls) where
       abbrev f : ℕ → List (Entry E)

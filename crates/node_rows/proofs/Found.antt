@@ -91,15 +91,6 @@ module _ {E : Type 0} (f : ℕ → List (Entry E)) (test : E → Bool) where
 
 -- ---- what is found
 
--- what covers an extent that meets q meets it too, and so with a spot, where these are laws of the kind
-pub meets_upward : {E : Type 0} (covering meeting : E → E → Bool) → ((a b c : E) → covering c a ≡ true → meeting a b ≡ true → meeting c b ≡ true) → (q : E)
-    → Upward covering (λ x. meeting x q)
-meets_upward covering meeting more q c a k m = more a q c k m
-
-pub holds_upward : {E S : Type 0} (covering : E → E → Bool) (holding : E → S → Bool) → ((a c : E) (s : S) → covering c a ≡ true → holding a s ≡ true → holding c s ≡ true)
-    → (s : S) → Upward covering (λ x. holding x s)
-holds_upward covering holding more s c a k m = more a c s k m
-
 -- a walk over a tight tree that has no more pairs than the list has places finds all that pass
 pub finds_all : {E : Type 0} (covering : E → E → Bool) (test : E → Bool) → Upward covering test → (h : ℕ) (t : Tree E h) → Tight covering h t
     → (l m : List ℕ) (n : ℕ) → length (pairs h t) ≤ length l → n ≡ min (length (codes (reached test h t))) (length l) → m ≡ sets l 0 (codes (reached test h t))

@@ -10,7 +10,7 @@ use Rattle.quadratic.proofs.Perms.{joined_append}
 use Rattle.guttman.specs.Trees.{Tree}
 use Rattle.guttman.specs.Shape.{leaves, pairs}
 use Rattle.node_rows.specs.Rows.{row, below, under, used}
-use Rattle.node_rows.specs.Nodes.{seen, Off, Distinct, Live, Ready, Placed}
+use Rattle.node_rows.specs.Nodes.{seen, Off, Distinct, Live, Placed}
 use Rattle.node_rows.specs.Removal.{as_pair, Freed, Gathered}
 use Rattle.node_rows.proofs.RowSet.{count_short}
 use Rattle.node_rows.proofs.Separate.{all_unappend, apart_flip, distinct_parts}
@@ -42,16 +42,6 @@ freed_last c₁ r rs l a = record {
 }
 
 module _ {E : Type 0} (places : List (Entry E)) {c c₁ : List ℕ} {rs : List ℕ} (freed : Freed c c₁ rs) where
-  pub freed_ready : Ready places c → length c₁ ≡ 256 → Ready places c₁
-  freed_ready ready wide = record {
-    long = ready.long;
-    wide = wide;
-    within = λ q. elim (freed.gone q) [
-      | inl o ↦ let e = freed.rest q o in let w = ready.within q in omega arith
-      | inr z ↦ omega arith
-    ];
-  }
-
   pub freed_row : (q : ℕ) → Off q rs → row places c₁ q ≡ row places c q
   freed_row q o = ap (λ n. take n (drop (8 * q) places)) (freed.rest q o)
 

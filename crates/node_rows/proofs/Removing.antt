@@ -1,12 +1,11 @@
 -- What is cut out of the rows is what is cut out of the tree. Assumes nothing.
-use Rattle.std.proofs.Common.{◌≡◌, ℕ, suc, ◌+◌, ◌-◌, ◌*◌, ◌/◌, ◌<◌, ◌≤◌, Bool, true, false, cond, not, List, [], ◌∷◌, ◌++◌, map, length, get_or, take, drop, set, Some, None, Option, sym, refl, ap, ◌∙◌, subst, inl, inr, arith, length-append, length-set, length-take, get_or-set_other, get_or-take, get_or-set_same, take-take}
+use Rattle.std.proofs.Common.{◌≡◌, ℕ, suc, ◌+◌, ◌-◌, ◌*◌, ◌/◌, ◌<◌, ◌≤◌, Bool, true, cond, not, List, [], ◌∷◌, ◌++◌, map, length, get_or, take, drop, set, Some, None, Option, sym, refl, ap, ◌∙◌, subst, inl, inr, arith, length-append, length-set, length-take, get_or-set_other, get_or-take, get_or-set_same, take-take}
 use mathlib.Core.List.{Permᴰ}
 use lib.ListN.{length-map}
 use lib.Seq.{drop-set-add, take-set-lt, set_split}
-use Rattle.std.specs.List.{flat_map, prefix_len, AllByRecursion}
+use Rattle.std.specs.List.{flat_map, AllByRecursion}
 use Rattle.std.proofs.lemmas.List.{append-nil, map-append, get_or-map, take-map, drop-map}
 use Rattle.std.proofs.ByRecursion.{All-get_or, All-map}
-use Rattle.std.proofs.lemmas.List.Sums.{prefix_len-drop_yes, prefix_len-drop_no, prefix_len-drop_all}
 use Rattle.std.proofs.lemmas.Bool.{lt-ltb, le-ltb}
 use Rattle.extent.specs.declared.entry.Entry.{Entry}
 use Rattle.quadratic.proofs.Perms.{perm_same, joined_append}
@@ -14,7 +13,7 @@ use Rattle.guttman.specs.Trees.{Item, Tree, extents, bound}
 use Rattle.guttman.specs.Shape.{pairs}
 use Rattle.guttman.specs.Deletion.{Loose, loose_pairs}
 use Rattle.guttman.specs.Cutting.{without, Remains, is_pair, cut, cut_at, cut_inner, cut_leaf}
-use Rattle.guttman.proofs.Leaving.{perm_without, without_is, without_map, first_some_found, first_some_missed}
+use Rattle.guttman.proofs.Leaving.{perm_without, without_is, without_map, leading_map, first_some_found, first_some_missed}
 use Rattle.node_rows.specs.Rows.{row, below, under, used}
 use Rattle.node_rows.specs.Nodes.{seen, Off, Live, Ready}
 use Rattle.node_rows.specs.Removal.{as_pair, before_pair, Gathered, Pruned, TakenOut, Dropped, Stayed, WasCut}
@@ -62,10 +61,6 @@ module _ {E : Type 0} (places : List (Entry E)) (counts : List ℕ) (at i last :
       }
 
 -- ---- a leaf
-
-leading_map : {X Y : Type 0} (p : Y → Bool) (g : X → Y) (xs : List X) → prefix_len p (map g xs) ≡ prefix_len (λ x. p (g x)) xs
-leading_map p g [] = refl
-leading_map p g (x ∷ xs) = ap (λ n. cond (p (g x)) (1 + n) 0) (leading_map p g xs)
 
 module _ {E : Type 0} (size : E → ℕ) (join : E → E → E) (covering : E → E → Bool) (e : E) (c : ℕ) where
   abbrev first : List (Entry E) → ℕ
@@ -259,19 +254,3 @@ module _ {E : Type 0} (size : E → ℕ) (join : E → E → E) (covering : E �
         in_range : (rs : List ℕ) → AllByRecursion (Live f) rs → AllByRecursion (λ q. q < 256) rs
         in_range [] a = tt
         in_range (q ∷ rs) a = (a.0.0, in_range rs a.1)
-
--- ---- the entries of a leaf, one after the other
-
-module _ {E : Type 0} (covering : E → E → Bool) (e : E) (c : ℕ) (es : List (Entry E)) (i : ℕ) where
-  abbrev other : Entry E → Bool
-  other x = not (is_pair covering e c (as_pair x))
-
-  module _ (d : Entry E) (inside : i < length es) (is : d ≡ get_or es i d) (so_far : before_pair covering e c es ≡ i + prefix_len other (drop i es)) where
-    pub before_more : false ≡ is_pair covering e c (as_pair d) → before_pair covering e c es ≡ (i + 1) + prefix_len other (drop (i + 1) es)
-    before_more z = let s = prefix_len-drop_yes other es i d inside (ap other (sym is) ∙ ap not (sym z)) in omega arith
-
-    pub before_here : true ≡ is_pair covering e c (as_pair d) → i ≡ before_pair covering e c es
-    before_here z = let s = prefix_len-drop_no other es i d inside (ap other (sym is) ∙ ap not (sym z)) in omega arith
-
-  pub before_all : length es ≤ i → i ≤ length es → before_pair covering e c es ≡ i + prefix_len other (drop i es) → length es ≡ before_pair covering e c es
-  before_all l m so_far = let s = prefix_len-drop_all other es i l in omega arith

@@ -1,12 +1,7 @@
 -- How many rows are not in use. Assumes nothing.
-use Rattle.std.proofs.Common.{◌≡◌, ℕ, zero, suc, ◌+◌, ◌<◌, ◌≤◌, List, [], ◌∷◌, length, get_or, set, refl, ap, ◌∙◌, inl, inr, zero-add, arith, length-set, get_or-set_other}
+use Rattle.std.proofs.Common.{◌≡◌, ℕ, zero, suc, ◌+◌, ◌<◌, ◌≤◌, List, [], ◌∷◌, length, get_or, set, refl, ap, ◌∙◌, inl, inr, arith, length-set, get_or-set_other}
 use Rattle.std.proofs.lemmas.Bool.{cases_eq}
 use Rattle.node_rows.specs.Nodes.{Off, spare, idle}
-
-pub spare_none : (ns : List ℕ) → ((k : ℕ) → k < length ns → get_or ns k 0 ≡ 0 → ⊥) → spare ns ≡ 0
-spare_none [] h = refl
-spare_none (zero ∷ ns) h = absurd (h 0 (omega arith) refl)
-spare_none (suc n ∷ ns) h = zero-add (spare ns) ∙ spare_none ns (λ k l e. h (suc k) (omega arith) e)
 
 -- a count that is set: one row fewer is left at most, and none fewer where the row was in use
 pub spare_set : (ns : List ℕ) (i v : ℕ) → spare ns ≤ spare (set ns i v) + 1

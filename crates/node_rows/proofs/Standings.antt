@@ -12,6 +12,7 @@ use Rattle.extent.specs.declared.entry.Entry.{Entry}
 use Rattle.guttman.specs.Trees.{Item, Tree}
 use Rattle.guttman.specs.Shape.{Filled, Shaped, Tight, slack_root, pairs}
 use Rattle.guttman.specs.Laws.{Joining}
+use Rattle.guttman.proofs.Lists.{perm_length}
 use Rattle.guttman.proofs.Counting.{nodes_slack_pairs, six_deep}
 use Rattle.guttman.proofs.Gaining.{inserted_pairs}
 use Rattle.guttman.proofs.Shaping.{low_some, inserted_shaped}
@@ -21,12 +22,6 @@ use Rattle.node_rows.specs.Nodes.{Off, Distinct, Live, Ready, Placed, Standing, 
 use Rattle.node_rows.proofs.RowSet.{count_row}
 use Rattle.node_rows.proofs.Spares.{spare_outside}
 use Rattle.node_rows.proofs.Frames.{length_used}
-
-pub perm_length : {X : Type 0} {xs ys : List X} → Permᴰ xs ys → length xs ≡ length ys
-perm_length Permᴰ.nil = refl
-perm_length (Permᴰ.cons e p) = ap suc (perm_length p)
-perm_length (Permᴰ.swap e k) = refl
-perm_length (Permᴰ.trans p q) = perm_length p ∙ perm_length q
 
 -- ---- what such a tree states has one proof at most, so it comes out of a truncation
 

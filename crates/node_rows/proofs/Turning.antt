@@ -15,43 +15,54 @@ use Rattle.node_rows.proofs.Children.{Child, child_in, child_is, child_placed}
 use Rattle.node_rows.proofs.Removing.{sought, cut_inner_none, was_cut_few, was_cut_many}
 use Rattle.node_rows.proofs.Settling.{child_filled, child_pairs, was_cut_pairs, was_cut_long, settle_inside, settle_off, settle_placed}
 
-module _ {E : Type 0} (size : E → ℕ) (join : E → E → E) (covering : E → E → Bool) (e : E) (c : ℕ) {places : List (Entry E)} {counts : List ℕ} {h at : ℕ}
-    (ready : Ready places counts) (placed : Placed (row places counts) h at) (some : h ≡ 0 → ⊥) where
-  abbrev f : ℕ → List (Entry E)
-  f = row places counts
+-- what such a turn knows: the rows as they are at it, `now-places` and `now-counts`, are as they were, and d was read at place i of the row
+pub record Turn {E : Type 0} (places : List (Entry E)) (counts : List ℕ) (now-places : List (Entry E)) (now-counts : List ℕ) (h at i : ℕ) (d : Entry E) : Type 0 where
+  pub ready : Ready places counts
+  pub placed : Placed (row places counts) h at
+  pub some : h ≡ 0 → ⊥
+  pub same : now-places ≡ places
+  pub same-counts : now-counts ≡ counts
+  pub inside : i < get_or counts at 0
+  pub read : d ≡ get_or now-places (8 * at + i) d
 
-  abbrev k : ℕ
-  k = h - 1
+pub turn_of : {E : Type 0} {places : List (Entry E)} {counts : List ℕ} {now-places : List (Entry E)} {now-counts : List ℕ} {h at i : ℕ} {d : Entry E} → Ready places counts
+    → Placed (row places counts) h at → (h ≡ 0 → ⊥) → now-places ≡ places → now-counts ≡ counts → i < get_or counts at 0 → d ≡ get_or now-places (8 * at + i) d
+    → Turn places counts now-places now-counts h at i d
+turn_of a b c d e f g = record { ready = a; placed = b; some = c; same = d; same-counts = e; inside = f; read = g }
 
-  -- nothing is found below the first i entries
-  abbrev pub Missed : ℕ → Type 0
-  Missed i = AllByRecursion (λ x. sought size join covering e c f k x ≡ None) (take i (f at))
-
-  pub missed_all : (i : ℕ) → get_or counts at 0 ≤ i → Missed i → cut size join covering e c h (below f h at) ≡ None
-  missed_all i l missed =
+module _ {E : Type 0} (size : E → ℕ) (join : E → E → E) (covering : E → E → Bool) (e : E) (c : ℕ) {places : List (Entry E)} {counts : List ℕ} {h at : ℕ} where
+  pub missed_all : Ready places counts → Placed (row places counts) h at → (h ≡ 0 → ⊥) → (i : ℕ) → get_or counts at 0 ≤ i
+      → AllByRecursion (λ x. sought size join covering e c (row places counts) (h - 1) x ≡ None) (take i (row places counts at)) → cut size join covering e c h (below (row places counts) h at) ≡ None
+  missed_all ready placed some i l missed =
+      let f = row places counts in
       let n = count_row places counts ready at placed.there in
-      cut_inner_none size join covering e c f k at h (omega arith) (subst (AllByRecursion (λ x. sought size join covering e c f k x ≡ None)) (take_all i (f at) (omega arith)) missed)
+      cut_inner_none size join covering e c f (h - 1) at h (omega (arith, some)) (subst (AllByRecursion (λ x. sought size join covering e c f (h - 1) x ≡ None)) (take_all i (f at) (omega arith)) missed)
 
-  -- the rows as they are at this turn, `now-places` and `now-counts`, are as they were
-  module _ {now-places : List (Entry E)} {now-counts : List ℕ} (same : now-places ≡ places) (same-counts : now-counts ≡ counts) {i : ℕ} {d : Entry E}
-      (inside : i < get_or counts at 0) (read : d ≡ get_or now-places (8 * at + i) d) where
+  module _ {now-places : List (Entry E)} {now-counts : List ℕ} {i : ℕ} {d : Entry E} (turn : Turn places counts now-places now-counts h at i d) where
+    abbrev f : ℕ → List (Entry E)
+    f = row places counts
+
+    abbrev k : ℕ
+    k = h - 1
+
+    -- nothing is found below the first i entries
+    abbrev pub Missed : ℕ → Type 0
+    Missed i = AllByRecursion (λ x. sought size join covering e c f k x ≡ None) (take i (f at))
+
     pub turn_child : Child places counts h k at i d
-    turn_child = record { inner = omega arith; within = inside; read = read ∙ ap (λ z. get_or z (8 * at + i) d) same; ready = ready; placed = placed }
+    turn_child = record { inner = omega (arith, turn.some); within = turn.inside; read = turn.read ∙ ap (λ z. get_or z (8 * at + i) d) turn.same; ready = turn.ready; placed = turn.placed }
 
     abbrev g : ℕ → List (Entry E)
     g = row now-places now-counts
 
-    pub turn_ready : Ready now-places now-counts
-    turn_ready = subst₂ Ready (sym same) (sym same-counts) ready
-
     pub turn_placed : Placed g k d.code
-    turn_placed = subst₂ (λ p q. Placed (row p q) k d.code) (sym same) (sym same-counts) (child_placed turn_child)
+    turn_placed = subst₂ (λ p q. Placed (row p q) k d.code) (sym turn.same) (sym turn.same-counts) (child_placed turn_child)
 
     pub turn_filled : AllByRecursion (Filled h) (below f h at) → AllByRecursion (Filled k) (below g k d.code)
-    turn_filled all = subst₂ (λ p q. AllByRecursion (Filled k) (below (row p q) k d.code)) (sym same) (sym same-counts) (child_filled turn_child all).1
+    turn_filled all = subst₂ (λ p q. AllByRecursion (Filled k) (below (row p q) k d.code)) (sym turn.same) (sym turn.same-counts) (child_filled turn_child all).1
 
     pub turn_pairs : length (pairs k (below g k d.code)) ≤ length (pairs h (below f h at))
-    turn_pairs = subst₂ (λ p q. length (pairs k (below (row p q) k d.code)) ≤ length (pairs h (below f h at))) (sym same) (sym same-counts) (child_pairs turn_child)
+    turn_pairs = subst₂ (λ p q. length (pairs k (below (row p q) k d.code)) ≤ length (pairs h (below f h at))) (sym turn.same) (sym turn.same-counts) (child_pairs turn_child)
 
     -- nothing is found below the entry either
     missed_more : Missed i → sought size join covering e c f k d ≡ None → Missed (i + 1)
@@ -65,7 +76,7 @@ module _ {E : Type 0} (size : E → ℕ) (join : E → E → E) (covering : E �
     pub missed_below : Missed i → covering d.extent e ≡ true → cut size join covering e c k (below g k d.code) ≡ None → Missed (i + 1)
     missed_below missed z none =
         missed_more missed (ap (λ b. cond b (cut size join covering e c k (below f k d.code)) None) z
-        ∙ subst₂ (λ p q. cut size join covering e c k (below (row p q) k d.code) ≡ None) same same-counts none)
+        ∙ subst₂ (λ p q. cut size join covering e c k (below (row p q) k d.code) ≡ None) turn.same turn.same-counts none)
 
     -- the pair was cut out below the entry
     module _ {places₁ : List (Entry E)} {counts₁ : List ℕ} {again₁ : List (Entry E)} {n₁ : ℕ} (found : WasCut now-places now-counts places₁ counts₁ size join covering e c k d.code again₁ n₁) where
@@ -73,7 +84,7 @@ module _ {E : Type 0} (size : E → ℕ) (join : E → E → E) (covering : E �
       f₁ = row places₁ counts₁
 
       w : WasCut places counts places₁ counts₁ size join covering e c k d.code again₁ n₁
-      w = subst₂ (λ p q. WasCut p q places₁ counts₁ size join covering e c k d.code again₁ n₁) same same-counts found
+      w = subst₂ (λ p q. WasCut p q places₁ counts₁ size join covering e c k d.code again₁ n₁) turn.same turn.same-counts found
 
       pub turn_inside : i < get_or counts₁ at 0
       turn_inside = settle_inside size join covering e c turn_child w

@@ -17,22 +17,22 @@ module _ {E : Type 0} where
   places_of t = t.rows.places.now
 
   -- the tree that is read out of them, and the rows that it takes
-  abbrev pub tree_of : (t : Tree E) → Pure E t.height
-  tree_of t = below (row (places_of t) t.rows.counts) t.height t.root
+  abbrev pub tree_of : (t : Tree E) → Pure E t.root.height
+  tree_of t = below (row (places_of t) t.rows.counts) t.root.height t.root.row
 
   abbrev pub taken : Tree E → List ℕ
-  taken t = used (row (places_of t) t.rows.counts) t.height t.root
+  taken t = used (row (places_of t) t.rows.counts) t.root.height t.root.row
 
   -- the pairs that it stores
   abbrev pub pairs_of : Tree E → List (E × ℕ)
-  pairs_of t = pairs t.height (tree_of t)
+  pairs_of t = pairs t.root.height (tree_of t)
 
   -- a new tree is an empty leaf, over places that are as they were
   pub record Empty (places : List (Entry E)) (t : Tree E) : Type 0 where
-    pub tree : ◌≡◌ {A = (k : ℕ) × Pure E k} (t.height, tree_of t) (0, [])
+    pub tree : ◌≡◌ {A = (k : ℕ) × Pure E k} (t.root.height, tree_of t) (0, [])
     pub stored : t.stored ≡ 0
     pub same : places_of t ≡ places
-    pub formed : (covering : E → E → Bool) → WellFormed covering t.height (tree_of t)
+    pub formed : (covering : E → E → Bool) → WellFormed covering t.root.height (tree_of t)
 
   module _ (size : E → ℕ) (join : E → E → E) (covering : E → E → Bool) where
     -- a pair was stored: the tree is that of Guttman's insertion, it stores the pair and those that it stored, and if it was well formed, it
@@ -40,10 +40,10 @@ module _ {E : Type 0} where
     pub record Stored (t : Tree E) (e : E) (c : ℕ) (t' : Tree E) : Type 0 where
       pub rows : 2048 ≤ length (places_of t)
       pub room : t.stored < 256
-      pub tree : ◌≡◌ {A = (k : ℕ) × Pure E k} (t'.height, tree_of t') (inserted size join t.height (tree_of t) e c)
+      pub tree : ◌≡◌ {A = (k : ℕ) × Pure E k} (t'.root.height, tree_of t') (inserted size join t.root.height (tree_of t) e c)
       pub stored : t'.stored ≡ t.stored + 1
       pub pair : Permᴰ (pairs_of t') ((e, c) ∷ pairs_of t)
-      pub formed : WellFormed covering t.height (tree_of t) → WellFormed covering t'.height (tree_of t')
+      pub formed : WellFormed covering t.root.height (tree_of t) → WellFormed covering t'.root.height (tree_of t')
       pub apart : Distinct (taken t')
       pub long : length (places_of t') ≡ length (places_of t)
       pub memory : Untouched (places_of t) (places_of t') (taken t')

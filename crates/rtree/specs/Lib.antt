@@ -1,2 +1,4 @@
 pub mod Held
+pub mod Loans
 pub mod Looking
+pub mod Tables

@@ -14,8 +14,8 @@ module _ {E : Type 0} (covering : E → E → Bool) (test : E → Bool) where
   pub record Looked (t : Tree E) (l : List ℕ) (n : ℕ) (m : List ℕ) : Type 0 where
     pub rows : 2048 ≤ length (places_of t)
     pub room : 256 ≤ length l
-    pub walked : Finds (reached test t.height (tree_of t)) l n m
-    pub all : WellFormed covering t.height (tree_of t) → Finds (passing test (pairs_of t)) l n m
+    pub walked : Finds (reached test t.root.height (tree_of t)) l n m
+    pub all : WellFormed covering t.root.height (tree_of t) → Finds (passing test (pairs_of t)) l n m
 
   -- why a look-up is refused: the places have fewer than 256 rows, or else the list has fewer than 256 entries
   abbrev pub TurnedAway : Tree E → List ℕ → Refusal → Type 0

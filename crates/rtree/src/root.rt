@@ -1,63 +1,45 @@
 //! Inserting an entry into a whole tree, whose root may be split.
-ghost use Rattle.std.specs.Prelude.{◌≡◌, ℕ, ◌+◌, ◌<◌, ◌≤◌, [], ◌∷◌, length, slice_index};
-ghost use Rattle.node_rows.specs.Rows.{row as row_of};
-ghost use Rattle.node_rows.specs.Nodes.{spare, Ready, Placed, SetUp, Added};
+ghost use Rattle.std.specs.Prelude.{◌≡◌, ℕ, ◌+◌, ◌<◌, [], ◌∷◌, length, slice_index};
+ghost use Rattle.node_rows.specs.Nodes.{spare, Placed, SetUp, Added};
+ghost use Rattle.rtree.specs.Loans.{SameLoan};
+ghost use Rattle.rtree.specs.Tables.{rows_in};
 
-use crate::insert::insert;
-use crate::row::{bounds, fresh, push};
+use crate::node::{Node, above};
+use crate::table::Table;
 use extent::entry::Entry;
-use extent::extent::{Extent, Measured};
+use extent::extent::Measured;
 
-/// The entry for a node in a row.
-fn above<M: Extent + Copy>(extent: M, row: usize) -> Entry<M>
-    requires { row < 256 }
-    ensures { result ≡ record { extent = extent; code = row } }
-{
-    Entry {
-        extent,
-        code: row as u16,
+impl<M: Copy> Table<'_, M> {
+    /// Sets up a node above two others, in a row that is not in use.
+    fn crown(&mut self, top: u8, first: Entry<M>, second: Entry<M>)
+        requires { slice_index self.old.counts top ≡ 0 }
+        ensures set_up { SetUp self.old.places.now self.old.counts self.new.places.now self.new.counts top (first ∷ second ∷ []) }
+        ensures lent { SameLoan self.old.places self.new.places }
+    {
+        self.push(top, first);
+        self.push(top, second);
     }
 }
 
-/// Sets up a node above two others, in a row that is not in use.
-fn crown<M: Extent + Copy>(
-    places: &mut [Entry<M>],
-    counts: &mut [u8],
-    top: usize,
-    first: Entry<M>,
-    second: Entry<M>,
-)
-    requires ready { Ready places.old counts.old }
-    requires there { top < 256 }
-    requires free { slice_index counts.old top ≡ 0 }
-    ensures { SetUp places.old counts.old places.new counts.new top (first ∷ second ∷ []) }
-{
-    push(places, counts, top, first);
-    push(places, counts, top, second);
-}
-
-/// Adds an entry to the tree of this height at the row `root`, and answers the height and the root after that.
-pub(crate) fn add<M: Measured + Copy>(
-    places: &mut [Entry<M>],
-    counts: &mut [u8],
-    height: usize,
-    root: usize,
-    entry: Entry<M>,
-) -> (usize, usize)
-    requires ready { Ready places.old counts.old }
-    requires placed { Placed (row_of places.old counts.old) height root }
-    requires some { height + 1 < spare counts.old }
-    requires low { height < 256 }
-    ensures { Added places.old counts.old places.new counts.new M.Measured.measure M.Extent.joined height root result.0 result.1 entry }
-{
-    match insert(places, counts, height, root, entry) {
-        None => (height, root),
-        Some(new) => {
-            let first = above(bounds(places, counts, root), root);
-            let second = above(bounds(places, counts, new), new);
-            let top = fresh(counts);
-            crown(places, counts, top, first, second);
-            (height + 1, top)
+impl<M: Measured + Copy> Table<'_, M> {
+    /// Adds an entry to the tree with this root, and answers the root after that.
+    pub(crate) fn add(&mut self, root: Node, entry: Entry<M>) -> Node
+        requires placed { Placed (rows_in self.old) root.height root.row }
+        requires some { root.height + 1 < spare self.old.counts }
+        requires low { root.height < 256 }
+        ensures added { Added self.old.places.now self.old.counts self.new.places.now self.new.counts M.Measured.measure M.Extent.joined root.height root.row result.height result.row entry }
+        ensures lent { SameLoan self.old.places self.new.places }
+    {
+        let Some(new) = self.insert(root, entry) else {
+            return root;
+        };
+        let first = above(self.bounds(root.row), root.row);
+        let second = above(self.bounds(new), new);
+        let top = self.fresh();
+        self.crown(top, first, second);
+        Node {
+            height: root.height + 1,
+            row: top,
         }
     }
 }

@@ -3,6 +3,7 @@ ghost use Rattle.guttman.specs.Shape.{least_root};
 ghost use Rattle.node_rows.specs.Rows.{row};
 ghost use Rattle.node_rows.specs.Nodes.{Standing};
 
+use crate::node::Node;
 use crate::rows::Rows;
 
 pub mod find;
@@ -14,10 +15,9 @@ pub mod read;
 #[derive(Drop)]
 pub struct Tree<'a, E> {
     rows: Rows<'a, E>,
-    root: usize,
-    height: usize,
+    root: Node,
     stored: usize,
     ghost wide: { length rows.counts ≡ 256 },
     ghost within: { (q : ℕ) → slice_index rows.counts q ≤ 8 },
-    ghost standing: { ∥ Standing least_root (row rows.places.now rows.counts) height root stored ∥₁ },
+    ghost standing: { ∥ Standing least_root (row rows.places.now rows.counts) root.height root.row stored ∥₁ },
 }

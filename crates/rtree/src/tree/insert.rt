@@ -22,11 +22,7 @@ impl<E: Measured + Copy> Tree<'_, E> {
         if self.stored >= MOST {
             return Err(Refusal::Full);
         }
-        let (height, root) = self
-            .rows
-            .add(self.height, self.root, Entry { extent, code });
-        self.height = height;
-        self.root = root;
+        self.root = self.rows.add(self.root, Entry { extent, code });
         self.stored += 1;
         Ok(())
     }

@@ -2,6 +2,7 @@ ghost use Rattle.std.specs.Prelude.{◌≡◌};
 ghost use Rattle.rtree.specs.Held.{Empty};
 
 use super::Tree;
+use crate::node::Node;
 use crate::rows::Rows;
 use extent::entry::Entry;
 use extent::extent::Extent;
@@ -14,8 +15,7 @@ impl<'a, E: Extent + Copy> Tree<'a, E> {
     {
         Tree {
             rows: Rows::new(places),
-            root: 0,
-            height: 0,
+            root: Node { height: 0, row: 0 },
             stored: 0,
         }
     }

@@ -7,16 +7,16 @@ use extent::entry::Entry;
 impl<E> Tree<'_, E> {
     /// How many levels of nodes stand above the leaves.
     pub fn height(&self) -> usize
-        ensures { result ≡ self.now.height }
+        ensures { result ≡ self.now.root.height }
     {
-        self.height
+        self.root.height
     }
 
     /// The row of the root.
     pub fn root(&self) -> usize
-        ensures { result ≡ self.now.root }
+        ensures { result ≡ self.now.root.row }
     {
-        self.root
+        self.root.row as usize
     }
 
     /// The entries of a row, in a leaf pairs and above that children with their rows; none where the row is free.

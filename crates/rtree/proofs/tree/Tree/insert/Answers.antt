@@ -11,8 +11,8 @@ returns-then-self-ge-MOST g c =
     let s = standing_out self.standing in
     record { answer = (inr (omega arith, omega (arith, s.few), refl), refl); lent = refl }
 
-pub add-height-requires : goal.add-height-requires
-add-height-requires g c =
+pub add-self-requires : goal.add-self-requires
+add-self-requires g c =
     let self = c.args.self.now in
     let s = standing_out self.standing in
     let ready : Ready self.rows.places.now self.rows.counts = record { long = omega arith; wide = self.wide; within = self.within } in
@@ -22,7 +22,7 @@ add-height-requires g c =
 pub invariant_of-self : goal.invariant_of-self
 invariant_of-self g c =
     let s = standing_out c.args.self.now.standing in
-    let added = c.add-height.ensures.added in
+    let added = c.add-self.ensures.added in
     record {
       wide = added.ready.wide;
       within = added.ready.within;
@@ -37,7 +37,7 @@ returns g c =
     let law = g.met.E.Extent in
     let laws : Joining join covering = record { reflexive = law.reflexive; transitive = law.transitive; left = law.above_left; right = law.above_right; least = law.least } in
     let s = standing_out c.args.self.now.standing in
-    let added = c.add-height.ensures.added in
+    let added = c.add-self.ensures.added in
     let after = standing_added size join least_root (λ h. omega arith) (λ h. omega arith) s added c.if-self-ge-MOST.false in
     record {
       answer = record {
@@ -48,8 +48,8 @@ returns g c =
         pair = added_pairs size join least_root (λ h. omega arith) (λ h. omega arith) s added;
         formed = λ w. record { shape = after.shape; tight = added_tight size join least_root (λ h. omega arith) (λ h. omega arith) s added covering laws w.tight };
         apart = added.apart;
-        long = c.add-height.ensures.long;
+        long = c.add-self.ensures.long;
         memory = added.memory;
       };
-      lent = c.add-height.ensures.lent;
+      lent = c.add-self.ensures.lent;
     }
