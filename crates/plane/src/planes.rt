@@ -12,6 +12,8 @@ pub struct Planes<'a> {
 
 /// A surface in lent memory: four planes of bits, one after the other, of the weights 1, 2, 4 and 8. A row of a plane
 /// has whole bytes, and the leftmost pixel the top bit. It shows every ink at once.
+// Sides of 0 and no `Option<Size>`, and the lent bytes apart, both as in the byte surface; what a side needs of memory is counted
+// another way, so `new` and `holds` stand here once more.
 #[derive(Drop)]
 pub struct PlaneSurface<'a> {
     planes: Planes<'a>,

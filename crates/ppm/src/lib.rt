@@ -50,7 +50,7 @@ pub fn row<S: Surface>(y: u16, surface: &S, output: &mut [u8]) -> Result<usize, 
     for x in 0..width {
         // No read is refused: the pixel is on the surface.
         let colour = ink_colour(surface.read(x, y)?);
-        // By place, since of what is written through `chunks_exact_mut` no contract can speak afterwards.
+        // By place: tried with `chunks_exact_mut`, of which no contract can speak afterwards.
         let at = 3 * x as usize;
         output[at..at + 3].copy_from_slice(&colour);
     }

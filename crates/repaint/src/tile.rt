@@ -17,6 +17,7 @@ use raster::shape::Shape;
 fn lay(tile: &mut Inks, font: &Font, shape: Shape, ink: Ink, spot: Spot)
     ensures { (k : ℕ) → k < 256 → slice_index tile.new.values k ≡ (if covers font.now.rows shape (16 * spot.column + k % 16) (16 * spot.row + k / 16) then ink.value else slice_index tile.old.values k) }
 {
+    // By number: a place of the tile is one, and the pixel there follows from it.
     for k in 0..=u8::MAX {
         let (x, y) = spot.pixel(k);
         if shape.covers(font, x, y) {

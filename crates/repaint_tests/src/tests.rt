@@ -8,25 +8,29 @@ mod marks;
 mod ruling;
 mod tiles;
 
-/// A box in an ink.
-fn boxed(x: u16, y: u16, w: u16, h: u16, ink: u8) -> Option<Placed>
-    requires { ink ≤ 15 }
+/// The ink of that number.
+fn ink(value: u8) -> Ink
+    requires { value ≤ 15 }
 {
+    Ink { value }
+}
+
+/// A box in an ink.
+// As in the tests of painting, and so `span`: a crate of tests has nothing to hand on to another.
+fn boxed(x: u16, y: u16, w: u16, h: u16, ink: Ink) -> Option<Placed> {
     Some(Placed {
         shape: Shape::Box(Rect { x, y, w, h }),
-        ink: Ink { value: ink },
+        ink,
     })
 }
 
 /// A span that gives the ink to a shape.
-fn span(shape: u16, from: u16, to: u16, ink: u8) -> Option<Span>
-    requires { ink ≤ 15 }
-{
+fn span(shape: u16, from: u16, to: u16, ink: Ink) -> Option<Span> {
     Some(Span {
         shape,
         from,
         to,
-        ink: Ink { value: ink },
+        ink,
     })
 }
 

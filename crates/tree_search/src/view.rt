@@ -4,7 +4,8 @@ ghost use Rattle.node_rows.specs.Rows.{row};
 use extent::entry::Entry;
 
 /// Rows of entries: row r has the eight places from place 8 · r on, of which it uses as many as its count says.
-// Two lists beside each other: the places are lent entries, and a count has no place in one.
+// Two lists beside each other: the places are lent entries, and a count has no place in one. No `Table` of `rtree`: this one lends
+// only to be read, whatever the lists hold.
 #[derive(Drop)]
 pub struct View<'a, 'b, E> {
     pub places: &'a [Entry<E>],

@@ -33,7 +33,7 @@ fn write_bits(bytes: &mut [u8], from: usize, to: usize, bit: u8)
     requires one { bit ≤ 1 }
     ensures { bytes.new ≡ bits_written from to bit bytes.old }
 {
-    // By index: nothing is known of what is written through `iter_mut` under an adapter, and the index says which bits.
+    // By index: tried as `iter_mut` under an adapter, of which nothing is known afterwards; and the index says which bits.
     for i in from / 8..(to + 7) / 8 {
         let lo = from.saturating_sub(8 * i);
         let hi = (to - 8 * i).min(8);

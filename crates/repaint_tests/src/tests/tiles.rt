@@ -1,4 +1,4 @@
-use super::{bounds, boxed};
+use super::{bounds, boxed, ink};
 use crate::noting::Noting;
 use extent::plane_box::PlaneBox;
 use painting::scene::{Placed, Scene};
@@ -59,9 +59,9 @@ fn one_tile(
     runs: u32,
 ) -> Result<(), Fail> {
     let shapes = [
-        boxed(0, 0, 20, 20, 3),
-        boxed(2, 2, 16, 16, 4),
-        boxed(10, 10, 8, 8, 5),
+        boxed(0, 0, 20, 20, ink(3)),
+        boxed(2, 2, 16, 16, ink(4)),
+        boxed(10, 10, 8, 8, ink(5)),
     ];
     let mut surface = Noting::new(ByteSurface::new(memory, 20, 20));
     repaint(&mut surface, &shapes, t);
