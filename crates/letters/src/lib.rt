@@ -22,7 +22,10 @@ pub fn ink_letter(ink: u8) -> u8
 pub fn picture_row<S: Surface>(heap: Global, y: u16, surface: &S) -> Result<String, AllocError>
     ensures { IfOk result (λ s. string_bytes s ≡ row_text (S.Surface.view surface.now) y) }
 {
-    let (width, _) = surface.size();
+    let (width, height) = surface.size();
+    if y >= height {
+        return Ok(String::new(heap));
+    }
     (0..width)
         .filter_map(|x| surface.read(x, y).ok())
         .map(|ink| ink_letter(ink) as char)

@@ -11,7 +11,7 @@ use Rattle.lines.specs.declared.line.Ends.{Ends}
 use Rattle.lines.specs.Lines.{distance, toward, drift, dx, dy, flat, steep, turned, pixels, among}
 
 -- a pixel that is listed at i is among the pixels
-among_at : (f : ℕ → ℕ × ℕ) (x y a n i : ℕ) → a ≤ i → i < a + n → (f i).0 ≡ x → (f i).1 ≡ y → among (map f (range_with_len a n)) x y ≡ true
+pub among_at : (f : ℕ → ℕ × ℕ) (x y a n i : ℕ) → a ≤ i → i < a + n → (f i).0 ≡ x → (f i).1 ≡ y → among (map f (range_with_len a n)) x y ≡ true
 among_at f x y a zero i h k p q = absurd (omega arith)
 among_at f x y a (suc n) i h k p q = ⊎_elim
     (λ e. or_left _ _ (and_from _ _ (eq-eqb _ _ (ap (λ m. (f m).0) e ∙ p)) (eq-eqb _ _ (ap (λ m. (f m).1) e ∙ q))))
@@ -19,7 +19,7 @@ among_at f x y a (suc n) i h k p q = ⊎_elim
     (cases_eq a i)
 
 -- and one that is not listed is not
-among_none : (f : ℕ → ℕ × ℕ) (x y a n : ℕ) → ((i : ℕ) → a ≤ i → i < a + n → (f i).0 ≡ x → (f i).1 ≡ y → ⊥) → among (map f (range_with_len a n)) x y ≡ false
+pub among_none : (f : ℕ → ℕ × ℕ) (x y a n : ℕ) → ((i : ℕ) → a ≤ i → i < a + n → (f i).0 ≡ x → (f i).1 ≡ y → ⊥) → among (map f (range_with_len a n)) x y ≡ false
 among_none f x y a zero h = refl
 among_none f x y a (suc n) h = or_from _ _
     (⊎_elim (λ e. absurd (h a (omega arith) (omega arith) (eqb-true _ _ (and_parts _ _ e).0) (eqb-true _ _ (and_parts _ _ e).1))) (λ e. e) (cases_Bool (eqb (f a).0 x && eqb (f a).1 y)))
@@ -32,7 +32,7 @@ toward_up a b i h = cond-true (leb a b) _ _ (le-leb a b h)
 toward_down : (a b i : ℕ) → b < a → toward a b i ≡ a - i
 toward_down a b i h = cond-false (leb a b) _ _ (lt-leb a b h)
 
-toward_between : (a b i : ℕ) → i ≤ distance a b → (min a b ≤ toward a b i) × (toward a b i ≤ max a b)
+pub toward_between : (a b i : ℕ) → i ≤ distance a b → (min a b ≤ toward a b i) × (toward a b i ≤ max a b)
 toward_between a b i h = ⊎_elim
     (λ k. (omega (arith, toward_down a b i k), omega (arith, toward_down a b i k)))
     (λ k. (omega (arith, toward_up a b i k), omega (arith, toward_up a b i k)))
@@ -58,7 +58,7 @@ course_within l x y h k = ⊎_elim
     (cases_Bool (eqb (flat l (distance x l.x0)).1 y))
 
 -- which of the three lists a line has
-pixels_dot : (l : Ends) → dx l ≡ 0 → dy l ≡ 0 → pixels l ≡ (l.x0, l.y0) ∷ []
+pub pixels_dot : (l : Ends) → dx l ≡ 0 → dy l ≡ 0 → pixels l ≡ (l.x0, l.y0) ∷ []
 unfolding pixels
 pixels_dot l h k = cond-true _ _ _ (and_from _ _ (eq-eqb _ _ h) (eq-eqb _ _ k))
 
@@ -66,18 +66,18 @@ pub pixels_flat : (l : Ends) → 0 < dx l → dy l ≤ dx l → pixels l ≡ map
 unfolding pixels
 pixels_flat l h k = cond-false _ _ _ (and_left _ _ (ne_eqb (dx l) 0 (λ e. omega (arith, e)))) ∙ cond-true _ _ _ (le-leb _ _ k)
 
-pixels_steep : (l : Ends) → dx l < dy l → pixels l ≡ map (steep l) (range_with_len 0 (dy l + 1))
+pub pixels_steep : (l : Ends) → dx l < dy l → pixels l ≡ map (steep l) (range_with_len 0 (dy l + 1))
 unfolding pixels
 pixels_steep l h = cond-false _ _ _ (and_right (eqb (dx l) 0) _ (ne_eqb (dy l) 0 (λ e. omega (arith, e)))) ∙ cond-false _ _ _ (lt-leb _ _ h)
 
 -- a steep line is a flat one with x and y exchanged
-among_exchanged : (f g : ℕ → ℕ × ℕ) (x y a n : ℕ) → ((i : ℕ) → ((f i).0 ≡ (g i).1) × ((f i).1 ≡ (g i).0)) → among (map f (range_with_len a n)) x y ≡ among (map g (range_with_len a n)) y x
+pub among_exchanged : (f g : ℕ → ℕ × ℕ) (x y a n : ℕ) → ((i : ℕ) → ((f i).0 ≡ (g i).1) × ((f i).1 ≡ (g i).0)) → among (map f (range_with_len a n)) x y ≡ among (map g (range_with_len a n)) y x
 among_exchanged f g x y a zero h = refl
 among_exchanged f g x y a (suc n) h =
     ap₂ ◌||◌ (ap₂ (λ u v. eqb u x && eqb v y) (h a).0 (h a).1 ∙ and_comm (eqb (g a).1 x) (eqb (g a).0 y)) (among_exchanged f g x y (a + 1) n h)
 
 -- the shorter way never goes beyond its end
-drift_le : (long short i : ℕ) → 0 < long → i ≤ long → drift long short i ≤ short
+pub drift_le : (long short i : ℕ) → 0 < long → i ≤ long → drift long short i ≤ short
 drift_le long short i h k =
     let m : i * short ≤ long * short = mul-le i short long short k (omega arith) in
     let b : drift long short i < short + 1 = div_below (2 * i * short + long) (2 * long) (short + 1) (omega arith) (omega arith) in
@@ -93,7 +93,7 @@ pixels_length l = ⊎_elim
     (cases_eq (dx l) 0))
     (cases_lt (dx l) (dy l))
 
-among_turned : (l : Ends) (x y : ℕ) → among (map (steep l) (range_with_len 0 (dy l + 1))) x y ≡ among (map (flat (turned l)) (range_with_len 0 (dx (turned l) + 1))) y x
+pub among_turned : (l : Ends) (x y : ℕ) → among (map (steep l) (range_with_len 0 (dy l + 1))) x y ≡ among (map (flat (turned l)) (range_with_len 0 (dx (turned l) + 1))) y x
 among_turned l x y = among_exchanged (steep l) (flat (turned l)) x y 0 (dy l + 1) (λ i. (refl, refl))
 
 pub among_pixels_turned : (l : Ends) (x y : ℕ) → dx l < dy l → among (pixels (turned l)) y x ≡ among (pixels l) x y
@@ -128,7 +128,7 @@ pub flat_within : (l : Ends) (i : ℕ) → 0 < dx l → i ≤ dx l → (flat l i
 flat_within l i h b = (toward_between l.y0 l.y1 (drift (dx l) (dy l) i) (drift_le (dx l) (dy l) i h b)).1
 
 -- a pixel among the pixels is listed somewhere
-among_which : (f : ℕ → ℕ × ℕ) (x y a n : ℕ) → among (map f (range_with_len a n)) x y ≡ true → (i : ℕ) × (i < a + n) × ((f i).0 ≡ x) × ((f i).1 ≡ y)
+pub among_which : (f : ℕ → ℕ × ℕ) (x y a n : ℕ) → among (map f (range_with_len a n)) x y ≡ true → (i : ℕ) × (i < a + n) × ((f i).0 ≡ x) × ((f i).1 ≡ y)
 among_which f x y a zero e = absurd (false≢true e)
 among_which f x y a (suc n) e = ⊎_elim
     (λ h. (a, omega arith, eqb-true _ _ (and_parts _ _ h).0, eqb-true _ _ (and_parts _ _ h).1))

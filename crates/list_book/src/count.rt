@@ -11,7 +11,9 @@ fn row_count(font: &Font, shape: Shape, width: u16, y: u16) -> u32
     ensures value { result ≡ tally (λ x. covers font.now.rows shape x y) width }
     ensures bound { result ≤ width }
 {
-    (0..width).filter(|x| shape.covers(font, *x, y)).count() as u32
+    (0..width)
+        .map(|x| u32::from(shape.covers(font, x, y)))
+        .sum()
 }
 
 /// How many pixels of a sheet of that size the shape covers.

@@ -1,31 +1,33 @@
--- Digits as a text, and the number that it writes.
-use Rattle.std.proofs.Common.{◌≡◌, ℕ, ◌<◌, List, length, Some, Ok, Err, Result, MatchResult, refl, sym, subst, inl, inr, arith, Bor}
-use Rattle.std.specs.Result.{result_ok}
-use Rattle.std.specs.Str.{IsUtf8}
-use Rattle.std.specs.Str.Parse.{digits_value, ParsesUnsigned}
-use Rattle.std.proofs.lemmas.Bool.{cases_lt}
-use Rattle.std.proofs.lemmas.Str.{IsUtf8-from_ascii}
-use Rattle.std.proofs.lemmas.Str.Parse.{IsNumeralModel, numerals_by_value, tells_by_index, parse_digits}
-use Rattle.std.proofs.lemmas.Fmt.{IsAscii-from_digits}
-use Rattle.listing.specs.Figures.{Numeric, NumberOf}
+-- The value of digits, one digit after the other.
+use Rattle.std.proofs.Common.{◌≡◌, ℕ, ◌+◌, ◌-◌, ◌*◌, ◌<◌, ◌≤◌, List, ◌++◌, map, length, get_or, take, drop, sym, ap, ◌∙◌, arith}
+use Rattle.std.specs.Int.{IsInRange}
+use Rattle.std.specs.Char.{digit_value}
+use Rattle.std.specs.Str.Parse.{digits_value}
+use Rattle.std.specs.Int.Digits.{number_from_digits_after, number_from_digits}
+use Rattle.std.proofs.lemmas.Int.Digits.{digits_value_is, digits_value_more, number_after_append, number_after_ge}
+use Rattle.std.proofs.lemmas.List.{take-append-drop, map-append}
+use Rattle.std.proofs.lemmas.Bool.Decides.{nat_tests}
 
-pub own : IsNumeralModel (λ ds. Numeric ds (length ds)) (digits_value 10)
-own = numerals_by_value _ tells_by_index
+pub digit_value_is : (c : ℕ) → IsInRange 48 57 c → digit_value c ≡ c - 48
+digit_value_is c h = grind (arith, nat_tests)
 
--- digits are a text
-pub text_of :
-    {E : Type 0} (V : E → Type 0) (ds : List ℕ) (r : Result (Bor (List ℕ)) E) → Numeric ds (length ds)
-    → MatchResult r (λ s. (s.now ≡ ds) × IsUtf8 ds) (λ e. (IsUtf8 ds → ⊥) × V e)
-    → (s : Bor (List ℕ)) × (Some s ≡ result_ok r) × (s.now ≡ ds)
-text_of V ds (Ok s) d m = (s, refl, m.0)
-text_of V ds (Err e) d m = absurd (m.0 (IsUtf8-from_ascii ds (IsAscii-from_digits ds (own.to ds d))))
+-- one more digit
+pub value_step :
+    (ds : List ℕ) (i n : ℕ) → i < length ds → IsInRange 48 57 (get_or ds i 0) → digits_value 10 (take i ds) ≡ n
+    → digits_value 10 (take (i + 1) ds) ≡ n * 10 + (get_or ds i 0 - 48)
+value_step ds i n l h e =
+    let m = digits_value_more 10 ds i l in
+    let d = digit_value_is (get_or ds i 0) h in
+    omega arith
 
--- what a text of digits is read as
-pub number_read :
-    {E : Type 0} (ds t : List ℕ) (r : Result ℕ E) → Numeric ds (length ds) → 0 < length ds → t ≡ ds
-    → ParsesUnsigned 16 10 t r → NumberOf ds (result_ok r)
-number_read {E = E} ds t (Ok n) d some e p =
-    let h = parse_digits own {E = E} 16 ds (Ok n) (subst (λ xs. ParsesUnsigned {E = E} 16 10 xs (Ok n)) e p) d in (sym h.1, omega arith)
-number_read {E = E} ds t (Err x) d some e p =
-    let h = parse_digits own {E = E} 16 ds (Err x) (subst (λ xs. ParsesUnsigned {E = E} 16 10 xs (Err x)) e p) d in
-    elim (cases_lt (digits_value 10 ds) 65536) [ inl l ↦ absurd (h (some, l)) | inr l ↦ omega arith ]
+-- the first digits write no more than all of them
+pub value_front : (ds : List ℕ) (i : ℕ) → digits_value 10 (take i ds) ≤ digits_value 10 ds
+value_front ds i =
+    let a = digits_value_is 10 (take i ds) in
+    let b = digits_value_is 10 ds in
+    let front = map digit_value (take i ds) in
+    let rest = map digit_value (drop i ds) in
+    let e : map digit_value ds ≡ front ++ rest = ap (map digit_value) (sym (take-append-drop i ds)) ∙ map-append digit_value (take i ds) (drop i ds) in
+    let f : number_from_digits 10 (map digit_value ds) ≡ number_from_digits_after 10 (number_from_digits 10 front) rest = ap (number_from_digits 10) e ∙ number_after_append 10 0 front rest in
+    let g = number_after_ge 10 (number_from_digits 10 front) rest (omega arith) in
+    omega arith

@@ -1,5 +1,8 @@
-ghost use Rattle.std.specs.Prelude.{◌<◌, [], ◌∷◌, length};
+ghost use Rattle.std.specs.Prelude.{[], ◌∷◌, length};
 ghost use Rattle.listing.specs.Figures.{Numeric, NumberOf, DigitsFront, Parts, FiguresOf, Reads};
+
+/// The largest figure.
+const LIMIT: u32 = 65535;
 
 /// How many of the first bytes are digits.
 fn leading_digits(bytes: &[u8]) -> usize
@@ -20,11 +23,18 @@ fn split_digits(bytes: &[u8]) -> (&[u8], &[u8])
 
 /// The number that the digits write, unless it is above 65,535.
 fn number(digits: &[u8]) -> Option<u16>
-    requires some { 0 < length digits.now }
-    requires digits { Numeric digits.now (length digits.now) }
+    requires { Numeric digits.now (length digits.now) }
     ensures { NumberOf digits.now result }
 {
-    str::from_utf8(digits).ok()?.parse().ok()
+    let mut n = 0u16;
+    for digit in digits {
+        let more = u32::from(n) * 10 + u32::from(*digit - b'0');
+        if more > LIMIT {
+            return None;
+        }
+        n = more as u16;
+    }
+    Some(n)
 }
 
 /// The number that the bytes begin with, in decimal without leading zeros, and what follows it.

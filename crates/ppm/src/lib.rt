@@ -82,16 +82,19 @@ fn put_head(size: Size, output: &mut [u8]) -> usize
 }
 
 /// The whole frame of a surface; of a surface without pixels, nothing.
+#[tactic(auto, using(crate::proofs::Heads::head_most))]
 pub fn frame<S: Surface>(heap: Global, surface: &S) -> Result<Vec<u8>, AllocError>
     ensures { IfOk result (λ v. Framed (S.Surface.view surface.now) v.items) }
 {
     let mut bytes = Vec::new(heap);
-    let mut part = [0u8; ROW_ROOM];
     let (width, height) = surface.size();
-    let Ok(length) = head(width, height, &mut part) else {
+    let Ok(size) = Size::new(width, height) else {
         return Ok(bytes);
     };
-    bytes.extend_from_slice(&part[..length])?;
+    let mut start = [0u8; HEAD_ROOM];
+    let length = put_head(size, &mut start);
+    bytes.extend_from_slice(&start[..length])?;
+    let mut part = [0u8; ROW_ROOM];
     for y in 0..height {
         let Ok(length) = row(y, surface, &mut part) else {
             unreachable!()

@@ -1,6 +1,4 @@
-ghost use Rattle.std.specs.Prelude.{◌+◌, ◌<◌, ◌≤◌, length, decimal};
-
-use itoa::Buffer;
+ghost use Rattle.std.specs.Prelude.{◌≡◌, ◌+◌, ◌%◌, ◌<◌, ◌≤◌, length, decimal};
 
 /// Lent memory, which is written from its front up to a place.
 #[derive(Drop)]
@@ -23,13 +21,22 @@ impl Writer<'_> {
     }
 
     /// Writes the number in decimal after what is written.
-    #[tactic(auto, using(crate::proofs::Numbers::digits_below_thousand))]
     pub(crate) fn put_number(&mut self, n: u16)
         requires small { n < 1000 }
         requires room { self.old.end + 3 ≤ length self.old.output.now }
         ensures { Puts self.old (decimal n) self.new }
     {
-        let mut buffer = Buffer::new();
-        self.put(buffer.format(n).as_bytes());
+        match n {
+            0..=9 => self.put(&[digit(n)]),
+            10..=99 => self.put(&[digit(n / 10), digit(n)]),
+            _ => self.put(&[digit(n / 100), digit(n / 10), digit(n)]),
+        }
     }
+}
+
+/// The last digit of the number in decimal.
+fn digit(n: u16) -> u8
+    ensures { result ≡ 48 + n % 10 }
+{
+    b'0' + (n % 10) as u8
 }

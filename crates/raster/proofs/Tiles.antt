@@ -1,5 +1,5 @@
 -- A tile by its number, and by its column and row. Assumes nothing.
-use Rattle.std.proofs.Common.{◌≡◌, ℕ, ◌+◌, ◌*◌, ◌/◌, ◌%◌, ◌<◌, ◌&&◌, eqb, sym, refl, ap, ◌∙◌, ⊎_elim, arith}
+use Rattle.std.proofs.Common.{◌≡◌, ℕ, ◌+◌, ◌*◌, ◌/◌, ◌%◌, ◌<◌, ◌&&◌, eqb, sym, refl, ap, ◌∙◌, ap₂, ⊎_elim, arith}
 use Rattle.std.proofs.lemmas.Nat.{div-add-mod', div-mul-add, mod-mul-add}
 use Rattle.std.proofs.lemmas.Bool.{cases_Bool, eqb-true, eq-eqb, ne_eqb, and_parts, and_from, both_ways}
 use Rattle.basics.specs.Sizes.{tile_of}
@@ -18,6 +18,10 @@ row_column t w a b h = ⊎_elim
 pub tile_parts : (wide x y t : ℕ) → x < wide → tile_of wide x y ≡ t → (x / 16 ≡ t % ((wide + 15) / 16)) × (y / 16 ≡ t / ((wide + 15) / 16))
 tile_parts wide x y t h e = let c = (wide + 15) / 16 in
     (sym (mod-mul-add (y / 16) c (x / 16) (omega arith)) ∙ ap (λ m. m % c) e, sym (div-mul-add (y / 16) c (x / 16) (omega arith)) ∙ ap (λ m. m / c) e)
+
+-- a pixel in that column and row of tiles lies in the tile
+pub parts_tile : (wide x y t : ℕ) → x / 16 ≡ t % ((wide + 15) / 16) → y / 16 ≡ t / ((wide + 15) / 16) → tile_of wide x y ≡ t
+parts_tile wide x y t a b = let c = (wide + 15) / 16 in ap₂ (λ m n. m * c + n) b a ∙ div-add-mod' t c
 
 -- two pixels of one tile
 pub one_tile : (wide x y u v : ℕ) → x < wide → u < wide → tile_of wide x y ≡ tile_of wide u v → (u / 16 ≡ x / 16) × (v / 16 ≡ y / 16)

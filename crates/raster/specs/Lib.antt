@@ -5,4 +5,5 @@ pub use Rattle.basics.specs.Glyphs
 pub use Rattle.basics.specs.Segments
 pub use Rattle.basics.specs.Fonts
 pub use Rattle.lines.specs.Lines
+pub use Rattle.lines.specs.Walks
 pub mod Shapes

@@ -47,6 +47,10 @@ impl Marks {
     pub(crate) fn pick<T: Copy>(&self, table: &[Option<T>], n: u16) -> Option<T>
         ensures { result ≡ (if marked self.now n then at_number table.now n else None) }
     {
-        entry_at(table, n as usize).filter(|_| self.has(n))
+        if self.has(n) {
+            entry_at(table, n as usize)
+        } else {
+            None
+        }
     }
 }

@@ -1,14 +1,25 @@
-use Rattle.std.proofs.Common.{◌≡◌}
-use Rattle.listing.proofs.Values.{text_of, number_read}
+use Rattle.std.proofs.Common.{◌+◌, sym, ap, ◌∙◌, arith}
+use Rattle.std.specs.Str.Parse.{digits_value}
+use Rattle.std.proofs.lemmas.List.{take_all}
+use Rattle.listing.proofs.Values.{value_step, value_front}
 use Rattle.listing.proofs.figures.number.Goals as goal
 
-pub returns-in_err-ok : goal.returns-in_err-ok
-returns-in_err-ok c =
-    let t = text_of _ c.args.digits.now c.from_utf8.result c.requires.digits c.from_utf8.ensures.cases in
-    cc (t.1, c.in_err-ok.ensures.value)
+pub returns-then-more-gt-LIMIT : goal.returns-then-more-gt-LIMIT
+returns-then-more-gt-LIMIT c =
+    let ds = c.args.digits.now in
+    let i = c.loop-digit.digit-index in
+    let step = value_step ds i c.loop-digit.n c.loop-digit-test.true (c.requires i c.loop-digit-test.true) c.loop-digit.invariant.0 in
+    let more = value_front ds (i + 1) in
+    omega arith
+
+pub loop-digit-preserved : goal.loop-digit-preserved
+loop-digit-preserved c =
+    let ds = c.args.digits.now in
+    let i = c.loop-digit.digit-index in
+    let step = value_step ds i c.loop-digit.n c.loop-digit-test.true (c.requires i c.loop-digit-test.true) c.loop-digit.invariant.0 in
+    (omega arith, omega arith)
 
 pub returns : goal.returns
 returns c =
-    let t = text_of _ c.args.digits.now c.from_utf8.result c.requires.digits c.from_utf8.ensures.cases in
-    let same : c.in_ok-ok.field-0.now ≡ c.args.digits.now = cc (t.1, t.2, c.in_ok-ok.ensures.value) in
-    rw c.ok-2.ensures.value (number_read c.args.digits.now _ c.parse.result c.requires.digits c.requires.some same c.parse.ensures.value.0)
+    let whole = take_all c.loop-digit.digit-index c.args.digits.now c.loop-digit-test.false in
+    (sym (ap (digits_value 10) whole) ∙ c.loop-digit.invariant.0, c.loop-digit.invariant.1)
